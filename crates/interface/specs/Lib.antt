@@ -1,0 +1,12 @@
+pub mod Answers
+pub mod CutBounds
+pub mod Cuts
+pub mod Faults
+pub mod Grounds
+pub mod Homes
+pub mod Nodes
+pub mod Numbers
+pub mod Points
+pub mod Readings
+pub mod Rules
+pub mod Shapes
