@@ -2,7 +2,8 @@
 """An independent program: reads a problem text and answers by the rules of docs/, sharing no code with the solver.
 
 It closes the octagon's matrix by Floyd-Warshall from scratch after every cut, which is slow and simple.
-usage: reference.py read < TEXT    the fault line, or the records and how many lines were taken
+usage: reference.py read < TEXT     the fault line, or the records and how many lines were taken
+       reference.py solve < TEXT    what the entry point writes, with budget 10,000 and 30,127 bytes of output
 """
 import sys
 
@@ -155,16 +156,292 @@ def fault_line(fault):
     return "1E%02X%02X%04X%04X\n" % (number, layer, fault.line, place)
 
 
-def main():
-    text = sys.stdin.buffer.read()
+def opp(p):
+    return p ^ 1
+
+
+def value(x, p):
+    return x[p // 2] if p % 2 == 0 else -x[p // 2]
+
+
+class Octagon:
+    """Limits by the definition: home and cuts, closed from scratch, then rounded once and joined once."""
+
+    def __init__(self, ranges, cuts=()):
+        self.ranges, self.cuts, self.n = ranges, tuple(cuts), len(ranges)
+        nodes = range(2 * self.n)
+        top = [ranges[p // 2][1] if p % 2 == 0 else -ranges[p // 2][0] for p in nodes]
+        t = [[0 if q == opp(p) else top[p] + top[q] for q in nodes] for p in nodes]
+        for p, q, c in cuts:
+            if p < 2 * self.n and q < 2 * self.n:
+                t[p][q] = min(t[p][q], c)
+                t[q][p] = min(t[q][p], c)
+        self.void = False
+        changed = True
+        while changed and not self.void:
+            changed = False
+            self.void = any(t[p][opp(p)] < 0 for p in nodes)
+            if self.void:
+                break
+            for r in nodes:
+                for p in nodes:
+                    for q in nodes:
+                        if t[p][r] + t[opp(r)][q] < t[p][q]:
+                            t[p][q] = t[p][r] + t[opp(r)][q]
+                            changed = True
+        if not self.void:
+            e = [2 * (t[p][p] // 2) for p in nodes]
+            self.void = any(e[p] + e[opp(p)] < 0 for p in nodes)
+        if self.void:
+            self.limits = [[0] * 16 for _ in range(16)]
+            return
+        self.limits = [[0] * 16 for _ in range(16)]
+        for p in nodes:
+            for q in nodes:
+                if q == p:
+                    self.limits[p][q] = e[p]
+                elif q != opp(p):
+                    self.limits[p][q] = min(t[p][q], (e[p] + e[q]) // 2)
+
+    def cut(self, c):
+        return Octagon(self.ranges, self.cuts + (c,))
+
+    def limit(self, p, q):
+        return self.limits[p][q]
+
+    def offer(self):
+        if self.void:
+            return None
+        x = []
+        for k in range(self.n):
+            low = -(self.limits[2 * k + 1][2 * k + 1] // 2)
+            for p in range(2 * k):
+                low = max(low, value(x, p) - self.limits[p][2 * k + 1])
+            x.append(low)
+        return x
+
+
+class IntervalBox:
+    def __init__(self, ranges, void=False):
+        self.n, self.void = len(ranges), void or any(lo > hi for lo, hi in ranges)
+        self.ranges = [(0, 0)] * self.n if self.void else list(ranges)
+
+    def least(self, p):
+        lo, hi = self.ranges[p // 2]
+        return lo if p % 2 == 0 else -hi
+
+    def bounded(self, ranges, p, b):
+        lo, hi = ranges[p // 2]
+        ranges[p // 2] = (lo, min(hi, b)) if p % 2 == 0 else (max(lo, -b), hi)
+
+    def cut(self, c):
+        p, q, c = c
+        if self.void or p >= 2 * self.n or q >= 2 * self.n:
+            return self
+        ranges = list(self.ranges)
+        if p == q:
+            self.bounded(ranges, p, c // 2)
+        else:
+            bp, bq = c - self.least(q), c - self.least(p)
+            self.bounded(ranges, p, bp)
+            self.bounded(ranges, q, bq)
+        return IntervalBox(ranges)
+
+    def limit(self, p, q):
+        if self.void or p >= 2 * self.n or q >= 2 * self.n or q == opp(p):
+            return 0
+        return -self.least(opp(p)) - self.least(opp(q))
+
+    def offer(self):
+        return None if self.void else [lo for lo, _ in self.ranges]
+
+
+def range_of(s, k):
+    return -(s.limit(2 * k + 1, 2 * k + 1) // 2), s.limit(2 * k, 2 * k) // 2
+
+
+def extent(s):
+    if s.void:
+        return "void"
+    return "lone" if all(lo == hi for lo, hi in (range_of(s, k) for k in range(s.n))) else "open"
+
+
+def bits(count):
+    return (count - 1).bit_length()
+
+
+def halvings(s):
+    if s.void:
+        return 0
+    return sum(bits(hi - lo + 1) for lo, hi in (range_of(s, k) for k in range(s.n)))
+
+
+def split(s):
+    if extent(s) != "open":
+        return s, s
+    widths = [hi - lo for lo, hi in (range_of(s, k) for k in range(s.n))]
+    k = widths.index(max(widths))
+    lo, hi = range_of(s, k)
+    m = (lo + hi) // 2
+    return s.cut((2 * k, 2 * k, 2 * m)), s.cut((2 * k + 1, 2 * k + 1, -2 * (m + 1)))
+
+
+def limits_of(s):
+    return [s.limit(p, q) for p in range(16) for q in range(16)]
+
+
+def bounds(s, k, a):
+    """Least and greatest of k times setting a."""
+    lo, hi = range_of(s, a)
+    return (k * lo, k * hi) if k >= 0 else (k * hi, k * lo)
+
+
+def leaves(z, m, r):
+    return z % m == r
+
+
+def judge(rule, s):
+    kind = rule[0]
+    if kind == "pair":
+        _, p, q, c = rule
+        return "none" if -s.limit(opp(p), opp(q)) > c else "all" if s.limit(p, q) <= c else "unknown"
+    if kind == "sum":
+        _, terms, t = rule
+        parts = [bounds(s, k, a) for a, k in terms]
+        return "none" if sum(lo for lo, _ in parts) > t else "all" if sum(hi for _, hi in parts) <= t else "unknown"
+    if kind == "apart":
+        _, a, b, d = rule
+        lo, hi = -s.limit(2 * a + 1, 2 * b), s.limit(2 * a, 2 * b + 1)
+        return "none" if hi < d and lo > -d else "all" if lo >= d or hi <= -d else "unknown"
+    _, a, m, r = rule
+    lo, hi = range_of(s, a)
+    greatest = hi - (hi - r) % m
+    return "none" if greatest < lo else "all" if lo == hi else "unknown"
+
+
+def bounded_cut(p, b):
+    c = 2 * b
+    return None if c > 2 * M else (p, p, max(c, -2 * M))
+
+
+def proposed(rule, s, i):
+    kind = rule[0]
+    if kind == "pair":
+        return rule[1:] if i == 0 else None
+    if kind == "sum":
+        _, terms, t = rule
+        a, k = terms[i]
+        if k == 0:
+            return None
+        rest = t - sum(bounds(s, kk, aa)[0] for j, (aa, kk) in enumerate(terms) if j != i)
+        return bounded_cut(2 * a if k > 0 else 2 * a + 1, rest // abs(k))
+    if kind == "apart":
+        _, a, b, d = rule
+        lo, hi = -s.limit(2 * a + 1, 2 * b), s.limit(2 * a, 2 * b + 1)
+        if i:
+            return None
+        return (2 * a, 2 * b + 1, -d) if hi < d else (2 * a + 1, 2 * b, -d) if lo > -d else None
+    _, a, m, r = rule
+    lo, hi = range_of(s, a)
+    if i == 0:
+        return bounded_cut(2 * a, hi - (hi - r) % m)
+    if i == 1:
+        return bounded_cut(2 * a + 1, -(lo + (r - lo) % m))
+    return None
+
+
+def refine(rules, s):
+    for _ in range(8):
+        before = limits_of(s)
+        for rule in rules:
+            for i in range(3):
+                if extent(s) != "open":
+                    return s
+                c = proposed(rule, s, i)
+                if c is not None:
+                    s = s.cut(c)
+        if limits_of(s) == before:
+            break
+    return s
+
+
+def classify(rules, s):
+    if s.void:
+        return "drop"
+    verdicts = [judge(rule, s) for rule in rules]
+    if "none" in verdicts:
+        return "drop"
+    if all(v == "all" for v in verdicts) and s.offer() is not None:
+        return "hand"
+    return "split"
+
+
+def run(rules, stack, room, places, budget):
+    """(outcome, steps, regions); alters stack. room: places in the out list, places: those of the stack."""
+    steps, out = 0, []
+    while True:
+        if not stack:
+            return 0, steps, out
+        if steps == budget:
+            return 1, steps, out
+        s = refine(rules, stack[-1])
+        what = classify(rules, s)
+        if what == "hand":
+            if len(out) == room:
+                return 2, steps, out
+            out.append((s, s.offer()))
+            stack.pop()
+        elif what == "split":
+            if len(stack) == places:
+                return 3, steps, out
+            low, up = split(s)
+            stack[-1] = up
+            stack.append(low)
+        else:
+            stack.pop()
+        steps += 1
+
+
+def region_lines(s, x):
+    n = s.n
+    lines = ["10%02X" % n + "".join("%08X" % (v & 0xFFFFFFFF) for v in x)]
+    ranges = [range_of(s, k) for k in range(n)]
+    lines.append("01%02X" % n + "".join("%08X%08X" % (lo & 0xFFFFFFFF, hi & 0xFFFFFFFF) for lo, hi in ranges))
+    for p in range(2 * n):
+        for q in range(p + 1, 2 * n):
+            if q != opp(p) and s.limit(p, q) < (s.limit(p, p) + s.limit(q, q)) // 2:
+                lines.append("02%02X%02X%08X" % (p, q, s.limit(p, q) & 0xFFFFFFFF))
+    return lines
+
+
+def solve(text, budget=10_000, size=30_127):
+    if size < 1_897:
+        return ""
+    try:
+        home, rules, _ = read_problem(text)
+    except Fault as fault:
+        return fault_line(fault)
+    s = Octagon(home[1])
+    for rule in rules:
+        if rule[0] == "pair":
+            s = s.cut(rule[1:])
+    outcome, steps, regions = run(rules, [s], min(16, (size - 15) // 1_882), 169, budget)
+    lines = [line for shape, x in regions for line in region_lines(shape, x)]
+    lines.append("1F%02X%02X%08X" % (outcome, 1 if regions else 0, steps))
+    return "".join(line + "\n" for line in lines)
+
+
+def listing(text):
     try:
         home, rules, frames = read_problem(text)
     except Fault as fault:
-        sys.stdout.write(fault_line(fault))
-        return
-    for f in frames:
-        print(f.hex().upper())
-    print("taken %04X" % len(frames))
+        return fault_line(fault)
+    return "".join(f.hex().upper() + "\n" for f in frames) + "taken %04X\n" % len(frames)
+
+
+def main():
+    text = sys.stdin.buffer.read()
+    sys.stdout.write(solve(text) if sys.argv[1:] == ["solve"] else listing(text))
 
 
 if __name__ == "__main__":
