@@ -1,0 +1,10 @@
+pub mod Halves
+pub mod Tight
+pub mod Rounding
+pub mod OneCut
+pub mod Points
+pub mod Nodes
+pub mod Pigeonhole
+pub mod Chains
+pub mod LeastPoint
+pub mod Tries
