@@ -7,4 +7,5 @@ pub mod Nodes
 pub mod Pigeonhole
 pub mod Chains
 pub mod LeastPoint
+pub mod Entries
 pub mod Tries
