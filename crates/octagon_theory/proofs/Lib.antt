@@ -8,4 +8,5 @@ pub mod Pigeonhole
 pub mod Chains
 pub mod LeastPoint
 pub mod Entries
+pub mod Line
 pub mod Tries
