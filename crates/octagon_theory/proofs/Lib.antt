@@ -9,4 +9,5 @@ pub mod Chains
 pub mod LeastPoint
 pub mod Entries
 pub mod Line
+pub mod Exact
 pub mod Tries

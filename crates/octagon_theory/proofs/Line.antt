@@ -24,7 +24,7 @@ abbrev pub Node : ℕ → Type 0
 Node n = (p : ℕ) × (p < 2 * n)
 
 module _ (n : ℕ) where
-  pub flip : Node n → Node n
+  unfoldable pub flip : Node n → Node n
   flip p = (opp (p .0), opp-below n (p .0) (p .1))
 
   pub flip-flip : (p : Node n) → flip (flip p) ≡ p

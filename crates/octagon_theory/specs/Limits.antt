@@ -71,4 +71,4 @@ void h ts = any (λ p. ltZ (least h ts p (opp p)) (pos 0) || ltZ (even h ts p +�
 
 -- the limit (p, q): 0 on void, off the line and for opposite nodes
 unfoldable pub limit : Home → List Cut → ℕ → ℕ → ℤ
-limit h ts p q = cond (void h ts || (not (ltb p (2 * h .n) && ltb q (2 * h .n)) || eqb q (opp p))) (pos 0) (cond (eqb q p) (even h ts p) (minZ (least h ts p q) (half (even h ts p +ℤ even h ts q))))
+limit h ts p q = cond ((void h ts || not (ltb p (2 * h .n) && ltb q (2 * h .n))) || eqb q (opp p)) (pos 0) (cond (eqb q p) (even h ts p) (minZ (least h ts p q) (half (even h ts p +ℤ even h ts q))))

@@ -1,0 +1,55 @@
+-- What holds of the limits, for every home and every list of cuts. Assumes nothing.
+use Prim.Native.Nat.{ℕ, _*_, _<_, _≤_}
+use mathlib.Core.Bool.{Bool, true, false}
+use mathlib.Core.List.{List, [], _∷_, _++_}
+use mathlib.Core.Path.{_≡_}
+use lib.IntN.{ℤ, pos, _+ℤ_}
+use lib.Signed.{_≤ℤ_, _<ℤ_}
+use Rattle.std.specs.Orderings.{Decides}
+use Rattle.interface.specs.declared.cut.Cut.{Cut}
+use Rattle.interface.specs.declared.home.Home.{Home}
+use Rattle.interface.specs.Cuts.{Meets-all}
+use Rattle.interface.specs.Homes.{In-home, Passes}
+use Rattle.interface.specs.Nodes.{opp, value}
+use Rattle.interface.specs.Numbers.{half, within}
+use Rattle.interface.specs.Points.{No-later}
+use Rattle.octagon_theory.specs.Limits.{top-of, entry, Least-sum, least, void, limit}
+use Rattle.octagon_theory.specs.Matrices.{Tightly-closed, shortest, rounded, least-values}
+
+-- the points within the home that meet every cut
+abbrev pub Within : Home → List Cut → List ℤ → Type 0
+Within h ts x = In-home h x × Meets-all x ts
+
+-- z is the greatest v(p) + v(q) of the points x with S x: none has more, and some point has z
+pub record Greatest (S : List ℤ → Type 0) (p q : ℕ) (z : ℤ) : Type 0 where
+  pub above : (x : List ℤ) → S x → (value x p +ℤ value x q) ≤ℤ z
+  pub reached : (x : List ℤ) × S x × (value x p +ℤ value x q ≡ z)
+
+-- the form of C that computes is the least sum of a chain
+abbrev pub Least-sums-are-least : Type 0
+Least-sums-are-least = (h : Home) (ts : List Cut) → 0 < h .n → (p q : ℕ) → Least-sum (h .n) (entry h ts) p q (least h ts p q)
+
+-- unless void, the limit of two nodes on the line is the greatest sum of their values, and some point reaches it
+abbrev pub Every-limit-is-reached : Type 0
+Every-limit-is-reached = (h : Home) (ts : List Cut) → void h ts ≡ false → (p q : ℕ) → p < 2 * h .n → q < 2 * h .n → Greatest (Within h ts) p q (limit h ts p q)
+
+-- void says that there is no point, and nothing else
+abbrev pub Void-is-no-point : Type 0
+Void-is-no-point = (h : Home) (ts : List Cut) → Decides (void h ts) ((x : List ℤ) → Within h ts x → ⊥)
+
+-- limits lie within two million, are symmetric and even on the diagonal, at all nodes
+pub record Shown (L : ℕ → ℕ → ℤ) : Type 0 where
+  pub bounded : (p q : ℕ) → within 2000000 (L p q) ≡ true
+  pub symmetric : (p q : ℕ) → L p q ≡ L q p
+  pub even : (p : ℕ) → L p p ≡ (half (L p p) +ℤ half (L p p))
+
+abbrev pub Limits-can-be-shown : Type 0
+Limits-can-be-shown = (h : Home) → Passes h → (ts : List Cut) → Shown (limit h ts)
+
+-- unless void, the limits are tightly closed
+abbrev pub Limits-are-tight : Type 0
+Limits-are-tight = (h : Home) (ts : List Cut) → void h ts ≡ false → Tightly-closed (h .n) (limit h ts)
+
+-- two homes and lists of cuts with the same points have the same limits
+abbrev pub Points-decide-limits : Type 0
+Points-decide-limits = (h h′ : Home) (ts ts′ : List Cut) → h .n ≡ h′ .n → ((x : List ℤ) → Within h ts x → Within h′ ts′ x) → ((x : List ℤ) → Within h′ ts′ x → Within h ts x) → (void h ts ≡ void h′ ts′) × ((p q : ℕ) → limit h ts p q ≡ limit h′ ts′ p q)
