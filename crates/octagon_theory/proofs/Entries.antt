@@ -77,7 +77,7 @@ module _ (h : Home) where
       by (inl e) = cond-true (eqb q p) _ _ (eq-eqb q p e) ∙ ap (λ r. top-of h p +ℤ top-of h r) (sym e)
       by (inr e) = cond-false (eqb q p) _ _ (ne-eqb q p e) ∙ half-sum (top-of h p) (top-of h q)
 
-  home-symmetric : (p q : ℕ) → home-entry h p q ≡ home-entry h q p
+  pub home-symmetric : (p q : ℕ) → home-entry h p q ≡ home-entry h q p
   home-symmetric p q = by (cases-eq q (opp p))
     where
       by : (q ≡ opp p) ⊎ (q ≡ opp p → ⊥) → home-entry h p q ≡ home-entry h q p
@@ -133,7 +133,7 @@ module _ (h : Home) where
       (let r = a (2 * k + 1) (omega arith) in let e = value-odd k x in let f = top-odd k h in omega (arith, ints),
        let r = a (2 * k) (omega arith) in let e = value-even k x in let f = top-even k h in omega (arith, ints)))
 
-  home-entry-above : (x : List ℤ) → In-home h x → (p q : ℕ) → p < 2 * h .n → q < 2 * h .n → (value x p +ℤ value x q) ≤ℤ home-entry h p q
+  pub home-entry-above : (x : List ℤ) → In-home h x → (p q : ℕ) → p < 2 * h .n → q < 2 * h .n → (value x p +ℤ value x q) ≤ℤ home-entry h p q
   home-entry-above x i p q b c = by (cases-eq q (opp p))
     where
       by : (q ≡ opp p) ⊎ (q ≡ opp p → ⊥) → (value x p +ℤ value x q) ≤ℤ home-entry h p q

@@ -51,7 +51,7 @@ all-nodes : (a m b : ℕ) → a + m ≤ b → All (λ p. p < b) (counting a m)
 all-nodes a zero b h = tt
 all-nodes a (suc m) b h = (omega arith, all-nodes (a + 1) m b (omega arith))
 
-at-each : (P : ℕ → Type 0) (m : ℕ) → All P (counting 0 m) → (p : ℕ) → p < m → P p
+pub at-each : (P : ℕ → Type 0) (m : ℕ) → All P (counting 0 m) → (p : ℕ) → p < m → P p
 at-each P m a p h =
     let l = length-counting 0 m in
     subst P (getD-counting 0 m p 0 h ∙ (let z : 0 + p ≡ p = omega arith in z)) (all-getD P (counting 0 m) p 0 (omega arith) a)

@@ -10,4 +10,7 @@ pub mod LeastPoint
 pub mod Entries
 pub mod Line
 pub mod Exact
+pub mod Passing
+pub mod HomeMatrix
+pub mod Proved
 pub mod Tries

@@ -2,6 +2,7 @@
 use Prim.Native.Nat.{ℕ, _*_, _<_, _≤_}
 use mathlib.Core.Bool.{Bool, true, false}
 use mathlib.Core.List.{List, [], _∷_, _++_}
+use mathlib.Core.Logic.{_⊎_, _≢_}
 use mathlib.Core.Path.{_≡_}
 use lib.IntN.{ℤ, pos, _+ℤ_}
 use lib.Signed.{_≤ℤ_, _<ℤ_}
@@ -51,5 +52,32 @@ abbrev pub Limits-are-tight : Type 0
 Limits-are-tight = (h : Home) (ts : List Cut) → void h ts ≡ false → Tightly-closed (h .n) (limit h ts)
 
 -- two homes and lists of cuts with the same points have the same limits
+abbrev pub Same : Home → List Cut → Home → List Cut → Type 0
+Same h ts h′ ts′ = (void h ts ≡ void h′ ts′) × ((p q : ℕ) → limit h ts p q ≡ limit h′ ts′ p q)
+
 abbrev pub Points-decide-limits : Type 0
-Points-decide-limits = (h h′ : Home) (ts ts′ : List Cut) → h .n ≡ h′ .n → ((x : List ℤ) → Within h ts x → Within h′ ts′ x) → ((x : List ℤ) → Within h′ ts′ x → Within h ts x) → (void h ts ≡ void h′ ts′) × ((p q : ℕ) → limit h ts p q ≡ limit h′ ts′ p q)
+Points-decide-limits = (h h′ : Home) (ts ts′ : List Cut) → h .n ≡ h′ .n → ((x : List ℤ) → Within h ts x → Within h′ ts′ x) → ((x : List ℤ) → Within h′ ts′ x → Within h ts x) → Same h ts h′ ts′
+
+-- a home alone has a point, and its limits are the sums of the greatest values
+abbrev pub Home-alone : Type 0
+Home-alone = (h : Home) → Passes h → (void h [] ≡ false) × ((p q : ℕ) → p < 2 * h .n → q < 2 * h .n → q ≢ opp p → limit h [] p q ≡ (top-of h p +ℤ top-of h q))
+
+-- one cut more on the cuts ts
+pub record One-more (h : Home) (ts : List Cut) (t : Cut) : Type 0 where
+  -- void stays void
+  pub stays-void : void h ts ≡ true → void h (ts ++ (t ∷ [])) ≡ true
+  -- a cut with a node that is not on the line changes nothing
+  pub off-line : (2 * h .n ≤ t .p) ⊎ (2 * h .n ≤ t .q) → Same h (ts ++ (t ∷ [])) h ts
+  -- nor does one that is no lower than its limit
+  pub idle : void h ts ≡ false → t .p < 2 * h .n → t .q < 2 * h .n → limit h ts (t .p) (t .q) ≤ℤ t .c → Same h (ts ++ (t ∷ [])) h ts
+  -- one below the least sum of its nodes' values leaves no point
+  pub empties : void h ts ≡ false → t .p < 2 * h .n → t .q < 2 * h .n → (t .c +ℤ limit h ts (opp (t .p)) (opp (t .q))) <ℤ pos 0 → void h (ts ++ (t ∷ [])) ≡ true
+  -- any other: the least of five ways, rounded and joined
+  pub lowers : void h ts ≡ false → t .p < 2 * h .n → t .q < 2 * h .n → pos 0 ≤ℤ (t .c +ℤ limit h ts (opp (t .p)) (opp (t .q))) → (void h (ts ++ (t ∷ [])) ≡ false) × ((i j : ℕ) → i < 2 * h .n → j < 2 * h .n → limit h (ts ++ (t ∷ [])) i j ≡ rounded (shortest (limit h ts) (opp (t .p)) (opp (t .q)) (t .c)) i j)
+
+abbrev pub One-cut-at-a-time : Type 0
+One-cut-at-a-time = (h : Home) (ts : List Cut) (t : Cut) → One-more h ts t
+
+-- unless void, the least values one after the other are a point, and no point comes before it
+abbrev pub Least-values-are-least : Type 0
+Least-values-are-least = (h : Home) (ts : List Cut) → void h ts ≡ false → Within h ts (least-values (limit h ts) [] (h .n)) × ((x : List ℤ) → Within h ts x → No-later (least-values (limit h ts) [] (h .n)) x)
