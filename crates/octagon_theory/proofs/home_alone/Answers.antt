@@ -1,0 +1,5 @@
+use Rattle.octagon_theory.proofs.Proved.{home-alone}
+use Rattle.octagon_theory.proofs.home_alone.Needs as need
+
+pub returns : need.returns
+returns c = home-alone

@@ -1,0 +1,5 @@
+use Rattle.octagon_theory.proofs.Proved.{least-values-are-least}
+use Rattle.octagon_theory.proofs.least_values_are_least.Needs as need
+
+pub returns : need.returns
+returns c = least-values-are-least

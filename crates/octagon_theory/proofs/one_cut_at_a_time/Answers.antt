@@ -1,0 +1,5 @@
+use Rattle.octagon_theory.proofs.Proved.{one-cut-at-a-time}
+use Rattle.octagon_theory.proofs.one_cut_at_a_time.Needs as need
+
+pub returns : need.returns
+returns c = one-cut-at-a-time
