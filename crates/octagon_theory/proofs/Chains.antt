@@ -1,7 +1,7 @@
 -- Chains: the form that computes is the least sum; where no chain to the opposite node is below 0, longer chains are no lower, so the least sums are closed.
 use mathlib.Core.Path.{_≡_, refl, sym, ap, subst, _∙_}
 use mathlib.Core.List.{List, [], _∷_, _++_, map}
-use mathlib.Core.Logic.{_⊎_, inl, inr, _≢_}
+use mathlib.Core.Logic.{_⊎_, inl, inr}
 use Prim.Native.Nat.{ℕ, zero, suc, _+_, _-_, _*_, _≤_, _<_}
 use native.Mathlib.Decide.{ℕ-discrete}
 use native.Mathlib.Omega.{arith}
@@ -9,8 +9,7 @@ use lib.IntN.{ℤ, pos, _+ℤ_}
 use lib.ListN.{length, getD, length-append}
 use lib.Signed.{_≤ℤ_}
 use Rattle.std.specs.Iters.{counting}
-use Rattle.std.specs.Numbers.{minZ}
-use Rattle.std.specs.shelf.Lists.{All, folded, Has}
+use Rattle.std.specs.shelf.Lists.{All, Has}
 use Rattle.std.proofs.shelf.Counted.{getD-map-counting, length-map-counting}
 use Rattle.std.proofs.shelf.Elements.{all-getD, all-append}
 use Rattle.std.proofs.shelf.Signed.{folded-minZ-bounds, folded-minZ-reached}
@@ -18,7 +17,7 @@ use borrow.Author.Differences.{ints}
 use Rattle.interface.specs.Nodes.{opp}
 use Rattle.octagon_theory.specs.Limits.{chain-sum, Between, Least-sum, least-upto}
 use Rattle.octagon_theory.proofs.Nodes.{opp-opp, opp-below}
-use Rattle.octagon_theory.proofs.Pigeonhole.{Repeat, pigeonhole}
+use Rattle.octagon_theory.proofs.Pigeonhole.{pigeonhole}
 
 -- a chain of two parts that meet at the node a
 pub chain-split : (T : ℕ → ℕ → ℤ) (p : ℕ) (before : List ℕ) (a : ℕ) (after : List ℕ) (q : ℕ) → chain-sum T p (before ++ (a ∷ after)) q ≡ (chain-sum T p before a +ℤ chain-sum T (opp a) after q)

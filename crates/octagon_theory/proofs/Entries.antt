@@ -1,9 +1,9 @@
 -- The matrix that a home and its cuts give: symmetric, 0 at opposite nodes, and its points are those within the home that meet every cut.
 use mathlib.Core.Path.{_≡_, refl, sym, ap, ap₂, subst, _∙_}
 use mathlib.Core.Bool.{Bool, true, false, cond, not, _&&_, _||_}
-use mathlib.Core.List.{List, [], _∷_, _++_}
+use mathlib.Core.List.{List, [], _∷_}
 use mathlib.Core.Logic.{_⊎_, inl, inr, _≢_}
-use Prim.Native.Nat.{ℕ, zero, suc, _+_, _*_, _/_, _%_, _≤_, _<_}
+use Prim.Native.Nat.{ℕ, _+_, _*_, _/_, _%_, _<_}
 use native.Mathlib.Omega.{arith}
 use lib.Dec.{eqb, ltb}
 use lib.IntN.{ℤ, pos, negℤ, _+ℤ_}
@@ -11,7 +11,7 @@ use lib.ListN.{length, getD}
 use lib.Signed.{_≤ℤ_}
 use Rattle.std.specs.Numbers.{minZ}
 use Rattle.std.proofs.shelf.Signed.{clamps}
-use Rattle.std.proofs.shelf.Tests.{cases-eq, cases-bool, eqb-true, eqb-false, eq-eqb, ne-eqb, cond-true, cond-false, cond-both, or-cases, and-parts, and-from, or-left, or-right, or-parts, and-cases, not-true, both-ways}
+use Rattle.std.proofs.shelf.Tests.{cases-eq, cases-bool, eqb-true, eq-eqb, ne-eqb, cond-true, cond-false, cond-both, or-cases, and-parts, and-from, or-left, not-true, both-ways}
 use borrow.Author.Differences.{ints}
 use Rattle.interface.specs.declared.cut.Cut.{Cut}
 use Rattle.interface.specs.declared.home.Home.{Home}
@@ -20,8 +20,8 @@ use Rattle.interface.specs.Homes.{low-of, high-of, In-home}
 use Rattle.interface.specs.Nodes.{opp, value}
 use Rattle.interface.specs.Numbers.{half, within}
 use Rattle.octagon_theory.specs.Limits.{top-of, home-entry, is-between, entry}
-use Rattle.octagon_theory.proofs.Halves.{half-is, half-sum}
-use Rattle.octagon_theory.proofs.Nodes.{opp-opp, opp-below, signed, value-opp, Side, side, even, odd}
+use Rattle.octagon_theory.proofs.Halves.{half-sum}
+use Rattle.octagon_theory.proofs.Nodes.{opp-opp, value-opp, Side, side, even, odd}
 
 -- no cut is between opposite nodes
 pub not-opposite : (t : Cut) → t .q ≢ opp (t .p)
@@ -118,6 +118,7 @@ module _ (h : Home) where
       clash : ((t .p ≡ p) × (t .q ≡ opp p)) ⊎ ((t .p ≡ opp p) × (t .q ≡ p)) → ⊥
       clash (inl (a, b)) = not-opposite t (b ∙ ap opp (sym a))
       clash (inr (a, b)) = not-opposite t (b ∙ sym (opp-opp p) ∙ ap opp (sym a))
+
       by : (is-between t p (opp p) ≡ true) ⊎ (is-between t p (opp p) ≡ false) → entry h ts p (opp p) ≡ pos 0 → cond (is-between t p (opp p)) (minZ (entry h ts p (opp p)) (t .c)) (entry h ts p (opp p)) ≡ pos 0
       by (inl e) f = absurd (clash (between-nodes t p (opp p) e))
       by (inr e) f = cond-false _ _ _ e ∙ f
@@ -129,9 +130,13 @@ module _ (h : Home) where
       (λ k l. let r = i .1 k l .0 in let e = value-odd k x in let f = top-odd k h in omega (arith, ints)) p b
 
   pub home-from-above : (x : List ℤ) → length x ≡ h .n → ((p : ℕ) → p < 2 * h .n → value x p ≤ℤ top-of h p) → In-home h x
-  home-from-above x l a = (l, λ k b.
-      (let r = a (2 * k + 1) (omega arith) in let e = value-odd k x in let f = top-odd k h in omega (arith, ints),
-       let r = a (2 * k) (omega arith) in let e = value-even k x in let f = top-even k h in omega (arith, ints)))
+  home-from-above x l a = (
+    l,
+    λ k b. (
+      let r = a (2 * k + 1) (omega arith) in let e = value-odd k x in let f = top-odd k h in omega (arith, ints),
+      let r = a (2 * k) (omega arith) in let e = value-even k x in let f = top-even k h in omega (arith, ints),
+    ),
+  )
 
   pub home-entry-above : (x : List ℤ) → In-home h x → (p q : ℕ) → p < 2 * h .n → q < 2 * h .n → (value x p +ℤ value x q) ≤ℤ home-entry h p q
   home-entry-above x i p q b c = by (cases-eq q (opp p))
@@ -171,6 +176,7 @@ module _ (h : Home) where
 
   pub meets-from-entry : (ts : List Cut) (x : List ℤ) → length x ≡ h .n → ((p q : ℕ) → p < 2 * h .n → q < 2 * h .n → (value x p +ℤ value x q) ≤ℤ entry h ts p q) → Meets-all x ts
   meets-from-entry [] x l a = tt
-  meets-from-entry (t ∷ ts) x l a =
-      (λ b c. let u = a (t .p) (t .q) (omega arith) (omega arith) in let v = entry-cut t ts in omega (arith, ints),
-       meets-from-entry ts x l (λ p q b c. let u = a p q b c in let v = entry-lower t ts p q in omega (arith, ints)))
+  meets-from-entry (t ∷ ts) x l a = (
+    λ b c. let u = a (t .p) (t .q) (omega arith) (omega arith) in let v = entry-cut t ts in omega (arith, ints),
+    meets-from-entry ts x l (λ p q b c. let u = a p q b c in let v = entry-lower t ts p q in omega (arith, ints)),
+  )

@@ -1,13 +1,13 @@
 -- The limits are exact: the least sums are closed, so rounding and joining makes them tight, with the points of the home and its cuts; and a tight matrix reaches every entry.
-use mathlib.Core.Path.{_≡_, refl, sym, ap, ap₂, subst, _∙_}
+use mathlib.Core.Path.{_≡_, refl, sym, ap, subst, _∙_}
 use mathlib.Core.Bool.{Bool, true, false, cond, not, _&&_, _||_}
-use mathlib.Core.List.{List, [], _∷_, _++_}
-use mathlib.Core.Logic.{_⊎_, inl, inr, _≢_}
-use Prim.Native.Nat.{ℕ, zero, suc, _+_, _-_, _*_, _≤_, _<_}
+use mathlib.Core.List.{List, [], _∷_}
+use mathlib.Core.Logic.{_⊎_, inl, inr}
+use Prim.Native.Nat.{ℕ, zero, suc, _+_, _*_, _≤_, _<_}
 use native.Mathlib.Omega.{arith}
 use lib.Dec.{eqb, ltb}
-use lib.IntN.{ℤ, pos, negℤ, _+ℤ_}
-use lib.ListN.{length, getD}
+use lib.IntN.{ℤ, pos, _+ℤ_}
+use lib.ListN.{length}
 use lib.Signed.{_≤ℤ_, ltZ}
 use Rattle.std.specs.Iters.{counting}
 use Rattle.std.specs.Numbers.{minZ}
@@ -16,22 +16,20 @@ use Rattle.std.specs.shelf.Lists.{All}
 use Rattle.std.proofs.shelf.Counted.{getD-counting, length-counting}
 use Rattle.std.proofs.shelf.Elements.{all-getD}
 use Rattle.std.proofs.shelf.Signed.{clamps}
-use Rattle.std.proofs.shelf.Tests.{cases-eq, cases-bool, cases-lt, eq-eqb, ne-eqb, lt-ltb, le-ltb, cond-true, cond-false, or-cases, or-parts, or-from, or-left, or-right, and-from, and-left, and-right, not-from-true, not-from-false, both-ways}
+use Rattle.std.proofs.shelf.Tests.{cases-eq, cases-bool, eq-eqb, ne-eqb, lt-ltb, le-ltb, cond-true, cond-false, or-cases, or-parts, or-from, or-left, or-right, and-from, and-left, and-right, not-from-true, not-from-false, both-ways}
 use borrow.Author.Differences.{ints}
 use Rattle.interface.specs.declared.cut.Cut.{Cut}
 use Rattle.interface.specs.declared.home.Home.{Home}
-use Rattle.interface.specs.Cuts.{Meets, Meets-all}
-use Rattle.interface.specs.Homes.{In-home}
 use Rattle.interface.specs.Nodes.{opp, value}
 use Rattle.interface.specs.Numbers.{half}
-use Rattle.octagon_theory.specs.Limits.{entry, chain-sum, Least-sum, least-upto, least, even, any, void, limit}
+use Rattle.octagon_theory.specs.Limits.{entry, chain-sum, least, even, any, void, limit}
 use Rattle.octagon_theory.specs.Matrices.{Tightly-closed, Below, rounded}
 use Rattle.octagon_theory.specs.Theorems.{Within, Greatest}
 use Rattle.octagon_theory.proofs.Chains.{least-is, least-symmetric, least-triangle}
 use Rattle.octagon_theory.proofs.Entries.{entry-symmetric, entry-opposite, entry-above, home-from-entry, meets-from-entry}
 use Rattle.octagon_theory.proofs.Halves.{half-is, half-sum}
-use Rattle.octagon_theory.proofs.Line.{Node, flip, on-line, rounded-line, below-rounded, below-unrounded, some-point, reached}
-use Rattle.octagon_theory.proofs.Nodes.{opp-opp, opp-below, value-opp}
+use Rattle.octagon_theory.proofs.Line.{flip, on-line, rounded-line, below-rounded, below-unrounded, some-point, reached}
+use Rattle.octagon_theory.proofs.Nodes.{opp-below, value-opp}
 use Rattle.octagon_theory.proofs.Tight.{Closed}
 
 -- ---- a test over the nodes of a line
@@ -137,11 +135,11 @@ module _ (h : Home) (ts : List Cut) where
     least-closed = record {
       symmetric = λ p q. least-symmetric (h .n) (entry h ts) (entry-symmetric h ts) (least h ts) (λ a b. least-is (h .n) (entry h ts) a b (some-node (p .0) (p .1))) (p .0) (q .0);
       opposite = λ p.
-        let b = p .1 in
-        let f = least-is (h .n) (entry h ts) (p .0) (opp (p .0)) (some-node (p .0) (p .1)) .lowest [] (omega arith, tt) in
-        let e = entry-opposite h ts (p .0) in
-        let g = good (p .0) (p .1) in
-        omega (arith, ints);
+          let b = p .1 in
+          let f = least-is (h .n) (entry h ts) (p .0) (opp (p .0)) (some-node (p .0) (p .1)) .lowest [] (omega arith, tt) in
+          let e = entry-opposite h ts (p .0) in
+          let g = good (p .0) (p .1) in
+          omega (arith, ints);
       triangle = λ p q r. least-triangle (h .n) (entry h ts) (least h ts) (λ a b. least-is (h .n) (entry h ts) a b (some-node (p .0) (p .1))) good (p .0) (q .0) (r .0) (p .1) (r .1);
     }
 

@@ -1,22 +1,20 @@
 -- The matrix of a home alone is tight as it stands: a way over a third node adds that node's range, which is not negative.
-use mathlib.Core.Path.{_≡_, refl, sym, ap, subst, _∙_}
-use mathlib.Core.List.{List, []}
-use mathlib.Core.Logic.{_⊎_, inl, inr, _≢_}
-use Prim.Native.Nat.{ℕ, _+_, _*_, _<_}
+use mathlib.Core.Path.{_≡_, refl, ap, _∙_}
+use mathlib.Core.Logic.{_⊎_, inl, inr}
+use Prim.Native.Nat.{ℕ, _*_, _<_}
 use native.Mathlib.Omega.{arith}
-use lib.IntN.{ℤ, pos, _+ℤ_}
+use lib.IntN.{_+ℤ_}
 use lib.Signed.{_≤ℤ_}
 use Rattle.std.proofs.shelf.Tests.{cases-eq}
 use borrow.Author.Differences.{ints}
 use Rattle.interface.specs.declared.home.Home.{Home}
 use Rattle.interface.specs.Homes.{Passes}
 use Rattle.interface.specs.Nodes.{opp}
-use Rattle.interface.specs.Numbers.{half}
-use Rattle.octagon_theory.specs.Limits.{top-of, home-entry, entry}
+use Rattle.octagon_theory.specs.Limits.{top-of, home-entry}
 use Rattle.octagon_theory.specs.Matrices.{Tightly-closed}
 use Rattle.octagon_theory.proofs.Entries.{home-opposite, home-other, home-symmetric}
 use Rattle.octagon_theory.proofs.Halves.{half-is}
-use Rattle.octagon_theory.proofs.Nodes.{opp-opp, opp-below}
+use Rattle.octagon_theory.proofs.Nodes.{opp-opp}
 use Rattle.octagon_theory.proofs.Passing.{top-apart}
 
 module _ (h : Home) (passes : Passes h) where

@@ -1,18 +1,15 @@
 -- The least point of a tight matrix: each lower bound of the next setting is at most each upper bound, so its greatest lower bound is a value, and no point has a lesser one there.
 use mathlib.Core.Path.{_≡_, refl, sym, ap, subst, _∙_}
-use mathlib.Core.Bool.{Bool, true, false, cond}
 use mathlib.Core.List.{List, [], _∷_, _++_, map, append-assoc}
 use mathlib.Core.Logic.{_⊎_, inl, inr}
-use Prim.Native.Nat.{ℕ, zero, suc, _+_, _*_, _/_, _%_, _≤_, _<_}
+use Prim.Native.Nat.{ℕ, zero, suc, _+_, _*_, _/_, _%_, _<_}
 use native.Mathlib.Decide.{ℕ-discrete, decLt}
 use native.Mathlib.Omega.{arith}
-use lib.Dec.{eqb}
 use lib.IntN.{ℤ, pos, negℤ, _+ℤ_, _-ℤ_}
 use lib.ListN.{length, getD, length-append}
-use lib.Signed.{_≤ℤ_, _<ℤ_}
+use lib.Signed.{_≤ℤ_}
 use Rattle.std.specs.Iters.{counting}
-use Rattle.std.specs.Numbers.{maxZ}
-use Rattle.std.specs.shelf.Lists.{All, folded, Has}
+use Rattle.std.specs.shelf.Lists.{Has}
 use Rattle.std.proofs.shelf.Counted.{getD-map-counting, length-map-counting}
 use Rattle.std.proofs.shelf.Elements.{all-getD}
 use Rattle.std.proofs.shelf.Lists.{getD-append-left, getD-at, length-push, append-nil}
@@ -22,7 +19,7 @@ use Rattle.interface.specs.Nodes.{opp, value}
 use Rattle.interface.specs.Numbers.{half}
 use Rattle.interface.specs.Points.{No-later}
 use Rattle.octagon_theory.specs.Matrices.{Tightly-closed, Below, next-value, least-values}
-use Rattle.octagon_theory.proofs.Nodes.{opp-below, signed}
+use Rattle.octagon_theory.proofs.Nodes.{signed}
 
 -- values of a point that goes on after x
 module _ (x : List ℤ) where
@@ -195,10 +192,13 @@ next-least n L K x room z zs below = go (next-is L x)
   where
     a′ : ℕ
     a′ = 2 * length x + 1
+
     size : length (x ++ (z ∷ zs)) ≡ length x + suc (length zs)
     size = length-append x (z ∷ zs)
+
     on : a′ < 2 * length (x ++ (z ∷ zs))
     on = omega (arith, size)
+
     go : (next-value L x ≡ negℤ (half (L (2 * length x + 1) (2 * length x + 1)))) ⊎ ((p : ℕ) × (p < 2 * length x) × (next-value L x ≡ (value x p -ℤ L p (2 * length x + 1)))) → next-value L x ≤ℤ z
     go (inl e) =
         let t = below a′ a′ on on in
@@ -234,5 +234,8 @@ module _ (n : ℕ) (L : ℕ → ℕ → ℤ) (K : Tightly-closed n L) where
       let i = next-least n L K x (omega arith) z zs h in
       let same : next-value L x ≡ z = omega (arith, ints) in
       let s = length-push x (next-value L x) in
-      inr (same, least-no-later m (x ++ (next-value L x ∷ [])) zs (omega arith) (omega arith)
-        (subst (Below L) (ap (λ w. x ++ (w ∷ zs)) (sym same) ∙ sym (append-assoc x (next-value L x ∷ []) zs)) h)))
+      inr (
+        same,
+        least-no-later m (x ++ (next-value L x ∷ [])) zs (omega arith) (omega arith)
+            (subst (Below L) (ap (λ w. x ++ (w ∷ zs)) (sym same) ∙ sym (append-assoc x (next-value L x ∷ []) zs)) h),
+      ))

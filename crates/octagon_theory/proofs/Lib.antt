@@ -12,5 +12,4 @@ pub mod Line
 pub mod Exact
 pub mod Passing
 pub mod HomeMatrix
-pub mod Proved
-pub mod Tries
+pub mod Theorems

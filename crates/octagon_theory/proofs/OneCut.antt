@@ -1,7 +1,7 @@
 -- One cut on a tight matrix: an entry becomes the least of five ways, none, one or two steps over the cut. The 25 pairs of ways give the triangle; rounding and joining then make the matrix tight again.
-use mathlib.Core.Path.{_≡_, refl, sym, ap, ap₂, subst, _∙_}
+use mathlib.Core.Path.{_≡_, refl, ap}
 use native.Mathlib.Omega.{arith}
-use lib.IntN.{ℤ, pos, negℤ, _+ℤ_}
+use lib.IntN.{ℤ, pos, _+ℤ_}
 use lib.Signed.{_≤ℤ_, ltZ}
 use mathlib.Core.Logic.{_⊎_, inl, inr}
 use mathlib.Core.Bool.{Bool, true, false, cond}
@@ -138,11 +138,11 @@ module _ {N : Type 0} (opp : N → N) (twice : (p : N) → opp (opp p) ≡ p) (L
   unfolding D len
   even-or-once i = by-way L a b c (λ z. (z ≡ (half z +ℤ half z)) ⊎ (z ≡ len there i i)) i i
       (elim [
-        past ↦ inl (T .even i)
-      | there ↦ inr refl
-      | back ↦ inr (let s = C .symmetric i a in let t = C .symmetric i b in omega (arith, ints))
-      | there-back ↦ inl (let s = C .symmetric i a in let e = T .even b in omega (arith, ints, half-is))
-      | back-there ↦ inl (let s = C .symmetric i b in let e = T .even a in omega (arith, ints, half-is))
+        | past ↦ inl (T .even i)
+        | there ↦ inr refl
+        | back ↦ inr (let s = C .symmetric i a in let t = C .symmetric i b in omega (arith, ints))
+        | there-back ↦ inl (let s = C .symmetric i a in let e = T .even b in omega (arith, ints, half-is))
+        | back-there ↦ inl (let s = C .symmetric i b in let e = T .even a in omega (arith, ints, half-is))
       ])
 
   around : (i : N) → pos 0 ≤ℤ (D i i +ℤ D (opp i) (opp i))

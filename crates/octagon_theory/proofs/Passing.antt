@@ -1,9 +1,8 @@
 -- What a home that passes its check has: no ground of any setting holds.
-use mathlib.Core.Path.{_≡_, refl, sym, ap, subst, _∙_}
-use mathlib.Core.Bool.{Bool, true, false, cond, not, _&&_}
-use mathlib.Core.List.{List, [], _∷_, _++_}
-use mathlib.Core.Logic.{_⊎_, inl, inr}
-use Prim.Native.Nat.{ℕ, zero, suc, _+_, _*_, _≤_, _<_}
+use mathlib.Core.Path.{_≡_, refl, sym, ap, _∙_}
+use mathlib.Core.Bool.{Bool, true, false, cond, _&&_}
+use mathlib.Core.List.{List, [], _∷_}
+use Prim.Native.Nat.{ℕ, _+_, _*_, _<_}
 use native.Mathlib.Omega.{arith}
 use lib.Dec.{ltb}
 use lib.IntN.{ℤ, pos, negℤ, _+ℤ_}
@@ -15,7 +14,6 @@ use Rattle.std.specs.declared.result.Result.the-variants.{Ok, Err}
 use Rattle.std.specs.shelf.Lists.{All}
 use Rattle.std.proofs.shelf.Tests.{not-false, and-parts, and-from, ltb-true}
 use borrow.Author.Differences.{ints}
-use Rattle.interface.specs.declared.fault.RecordFault.{RecordFault}
 use Rattle.interface.specs.declared.home.Home.{Home}
 use Rattle.interface.specs.Grounds.{first-fault, next}
 use Rattle.interface.specs.Homes.{low-of, high-of, range-grounds, crossed-grounds, settings-grounds, Passes}

@@ -1,14 +1,11 @@
 -- The points of a matrix. Rounding and joining keeps them; a cut keeps those that meet it.
-use mathlib.Core.Path.{_≡_, refl, sym, ap, ap₂, subst, _∙_}
+use mathlib.Core.Path.{_≡_}
 use native.Mathlib.Omega.{arith}
-use lib.IntN.{ℤ, pos, negℤ, _+ℤ_}
-use lib.Signed.{_≤ℤ_, ltZ}
-use mathlib.Core.Logic.{_⊎_, inl, inr}
-use Rattle.std.specs.Numbers.{minZ}
+use lib.IntN.{ℤ, negℤ, _+ℤ_}
+use lib.Signed.{_≤ℤ_}
 use Rattle.std.proofs.shelf.Signed.{clamps}
-use Rattle.interface.specs.Numbers.{half}
 use borrow.Author.Differences.{ints}
-use Rattle.octagon_theory.proofs.Tight.{Closed, Tight, Under}
+use Rattle.octagon_theory.proofs.Tight.{Closed, Under}
 use Rattle.octagon_theory.proofs.Halves.{half-is}
 use Rattle.octagon_theory.specs.Matrices.{rounded, shortest}
 use Rattle.octagon_theory.proofs.OneCut.{Way, past, there, back, there-back, back-there, length-of, at-most, by-way}

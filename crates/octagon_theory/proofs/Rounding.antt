@@ -1,9 +1,8 @@
 -- Round and join: a closed matrix whose rounded diagonal is not contradictory becomes tight by taking, at each entry, the smaller of it and the sum of the two rounded halves.
-use mathlib.Core.Path.{_≡_, refl, sym, ap, ap₂, subst, _∙_}
+use mathlib.Core.Path.{_≡_, ap, subst, _∙_}
 use native.Mathlib.Omega.{arith}
 use lib.IntN.{ℤ, pos, _+ℤ_}
 use lib.Signed.{_≤ℤ_}
-use Rattle.std.specs.Numbers.{minZ}
 use Rattle.std.proofs.shelf.Signed.{clamps}
 use Rattle.interface.specs.Numbers.{half}
 use borrow.Author.Differences.{ints}
@@ -32,12 +31,12 @@ module _ {N : Type 0} (opp : N → N) (twice : (p : N) → opp (opp p) ≡ p) (D
     symmetric = λ p q. let s = C .symmetric p q in omega (arith, ints, clamps);
     opposite = λ p. let s = C .opposite p in let a = apart p in omega (arith, ints, clamps);
     triangle = λ p q r.
-      let t = C .triangle p q r in
-      let a = apart r in
-      let o = over p r in
-      let s = C .symmetric q (opp r) in
-      let o′ : half (D q q) ≤ℤ (D q (opp r) +ℤ half (D r r)) = subst (λ x. half (D q q) ≤ℤ (D q (opp r) +ℤ half (D x x))) (twice r) (over q (opp r)) in
-      omega (arith, ints, clamps);
+        let t = C .triangle p q r in
+        let a = apart r in
+        let o = over p r in
+        let s = C .symmetric q (opp r) in
+        let o′ : half (D q q) ≤ℤ (D q (opp r) +ℤ half (D r r)) = subst (λ x. half (D q q) ≤ℤ (D q (opp r) +ℤ half (D x x))) (twice r) (over q (opp r)) in
+        omega (arith, ints, clamps);
   }
 
   pub rounded-tight : Tight opp (rounded D)

@@ -1,10 +1,11 @@
 -- What holds of the limits, for every home and every list of cuts. Assumes nothing.
 use Prim.Native.Nat.{ℕ, _*_, _<_, _≤_}
-use mathlib.Core.Bool.{Bool, true, false}
+use mathlib.Core.Bool.{true, false}
 use mathlib.Core.List.{List, [], _∷_, _++_}
-use mathlib.Core.Logic.{_⊎_, _≢_}
+use mathlib.Core.Logic.{_⊎_, _≢_, _↔_}
 use mathlib.Core.Path.{_≡_}
 use lib.IntN.{ℤ, pos, _+ℤ_}
+use lib.ListN.{length}
 use lib.Signed.{_≤ℤ_, _<ℤ_}
 use Rattle.std.specs.Orderings.{Decides}
 use Rattle.interface.specs.declared.cut.Cut.{Cut}
@@ -15,7 +16,7 @@ use Rattle.interface.specs.Nodes.{opp, value}
 use Rattle.interface.specs.Numbers.{half, within}
 use Rattle.interface.specs.Points.{No-later}
 use Rattle.octagon_theory.specs.Limits.{top-of, entry, Least-sum, least, void, limit}
-use Rattle.octagon_theory.specs.Matrices.{Tightly-closed, shortest, rounded, least-values}
+use Rattle.octagon_theory.specs.Matrices.{Tightly-closed, Below, shortest, rounded, least-values}
 
 -- the points within the home that meet every cut
 abbrev pub Within : Home → List Cut → List ℤ → Type 0
@@ -51,6 +52,14 @@ Limits-can-be-shown = (h : Home) → Passes h → (ts : List Cut) → Shown (lim
 abbrev pub Limits-are-tight : Type 0
 Limits-are-tight = (h : Home) (ts : List Cut) → void h ts ≡ false → Tightly-closed (h .n) (limit h ts)
 
+-- unless void, the points that keep every limit are those within the home that meet every cut
+abbrev pub Limits-hold-the-points : Type 0
+Limits-hold-the-points = (h : Home) (ts : List Cut) → void h ts ≡ false → (x : List ℤ) → Within h ts x ↔ ((length x ≡ h .n) × Below (limit h ts) x)
+
+-- where each limit of a node with itself and its opposite's leave one value, there is one point, and the limits are its sums
+abbrev pub One-point-is-left : Type 0
+One-point-is-left = (h : Home) (ts : List Cut) → void h ts ≡ false → ((p : ℕ) → p < 2 * h .n → (limit h ts p p +ℤ limit h ts (opp p) (opp p)) ≡ pos 0) → (x : List ℤ) → Within h ts x → ((y : List ℤ) → Within h ts y → y ≡ x) × ((p q : ℕ) → p < 2 * h .n → q < 2 * h .n → limit h ts p q ≡ (value x p +ℤ value x q))
+
 -- two homes and lists of cuts with the same points have the same limits
 abbrev pub Same : Home → List Cut → Home → List Cut → Type 0
 Same h ts h′ ts′ = (void h ts ≡ void h′ ts′) × ((p q : ℕ) → limit h ts p q ≡ limit h′ ts′ p q)
@@ -74,6 +83,9 @@ pub record One-more (h : Home) (ts : List Cut) (t : Cut) : Type 0 where
   pub empties : void h ts ≡ false → t .p < 2 * h .n → t .q < 2 * h .n → (t .c +ℤ limit h ts (opp (t .p)) (opp (t .q))) <ℤ pos 0 → void h (ts ++ (t ∷ [])) ≡ true
   -- any other: the least of five ways, rounded and joined
   pub lowers : void h ts ≡ false → t .p < 2 * h .n → t .q < 2 * h .n → pos 0 ≤ℤ (t .c +ℤ limit h ts (opp (t .p)) (opp (t .q))) → (void h (ts ++ (t ∷ [])) ≡ false) × ((i j : ℕ) → i < 2 * h .n → j < 2 * h .n → limit h (ts ++ (t ∷ [])) i j ≡ rounded (shortest (limit h ts) (opp (t .p)) (opp (t .q)) (t .c)) i j)
+  -- no limit rises, and the limit of the cut's nodes is at most its bound
+  pub shrinks : void h (ts ++ (t ∷ [])) ≡ false → (p q : ℕ) → p < 2 * h .n → q < 2 * h .n → limit h (ts ++ (t ∷ [])) p q ≤ℤ limit h ts p q
+  pub obeyed : void h (ts ++ (t ∷ [])) ≡ false → t .p < 2 * h .n → t .q < 2 * h .n → limit h (ts ++ (t ∷ [])) (t .p) (t .q) ≤ℤ t .c
 
 abbrev pub One-cut-at-a-time : Type 0
 One-cut-at-a-time = (h : Home) (ts : List Cut) (t : Cut) → One-more h ts t

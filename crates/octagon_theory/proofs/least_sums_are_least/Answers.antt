@@ -1,4 +1,4 @@
-use Rattle.octagon_theory.proofs.Proved.{least-sums-are-least}
+use Rattle.octagon_theory.proofs.Theorems.{least-sums-are-least}
 use Rattle.octagon_theory.proofs.least_sums_are_least.Needs as need
 
 pub returns : need.returns

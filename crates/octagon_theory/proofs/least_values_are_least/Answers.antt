@@ -1,4 +1,4 @@
-use Rattle.octagon_theory.proofs.Proved.{least-values-are-least}
+use Rattle.octagon_theory.proofs.Theorems.{least-values-are-least}
 use Rattle.octagon_theory.proofs.least_values_are_least.Needs as need
 
 pub returns : need.returns

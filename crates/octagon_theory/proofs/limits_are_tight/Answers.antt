@@ -1,4 +1,4 @@
-use Rattle.octagon_theory.proofs.Proved.{limits-are-tight}
+use Rattle.octagon_theory.proofs.Theorems.{limits-are-tight}
 use Rattle.octagon_theory.proofs.limits_are_tight.Needs as need
 
 pub returns : need.returns

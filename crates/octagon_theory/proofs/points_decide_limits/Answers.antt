@@ -1,4 +1,4 @@
-use Rattle.octagon_theory.proofs.Proved.{points-decide-limits}
+use Rattle.octagon_theory.proofs.Theorems.{points-decide-limits}
 use Rattle.octagon_theory.proofs.points_decide_limits.Needs as need
 
 pub returns : need.returns

@@ -1,14 +1,15 @@
 -- The theorems, each from the limits' exactness: what is greatest is unique, so any tight matrix with the same points has the same entries.
-use mathlib.Core.Path.{_≡_, refl, sym, ap, ap₂, subst, _∙_}
-use mathlib.Core.Bool.{Bool, true, false}
+use mathlib.Core.Path.{_≡_, refl, sym, subst, _∙_}
+use mathlib.Core.Bool.{true, false}
 use mathlib.Core.List.{List, [], _∷_, _++_}
-use mathlib.Core.Logic.{_⊎_, inl, inr, _≢_}
-use Prim.Native.Nat.{ℕ, zero, suc, _+_, _*_, _≤_, _<_}
+use mathlib.Core.Logic.{_⊎_, inl, inr}
+use Prim.Native.Nat.{ℕ, _*_, _≤_, _<_}
 use native.Mathlib.Omega.{arith}
 use lib.IntN.{ℤ, pos, negℤ, _+ℤ_}
 use lib.ListN.{length}
 use lib.Signed.{_≤ℤ_, _<ℤ_}
-use Rattle.std.proofs.shelf.Tests.{cases-eq, cases-bool, cases-lt, both-ways}
+use Rattle.std.proofs.shelf.Lists.{ext-getD}
+use Rattle.std.proofs.shelf.Tests.{cases-bool, cases-lt, both-ways}
 use borrow.Author.Differences.{ints}
 use Rattle.interface.specs.declared.cut.Cut.{Cut}
 use Rattle.interface.specs.declared.home.Home.{Home}
@@ -16,18 +17,17 @@ use Rattle.interface.specs.Cuts.{Meets, Meets-all}
 use Rattle.interface.specs.Homes.{In-home, Passes}
 use Rattle.interface.specs.Nodes.{opp, value}
 use Rattle.interface.specs.Numbers.{half, within}
-use Rattle.interface.specs.Points.{No-later}
-use Rattle.octagon_theory.specs.Limits.{top-of, home-entry, entry, void, limit}
+use Rattle.octagon_theory.specs.Limits.{home-entry, entry, void, limit}
 use Rattle.octagon_theory.specs.Matrices.{Tightly-closed, Below, shortest, rounded, least-values}
-use Rattle.octagon_theory.specs.Theorems.{Within, Greatest, Least-sums-are-least, Every-limit-is-reached, Void-is-no-point, Shown, Limits-can-be-shown, Limits-are-tight, Same, Points-decide-limits, Home-alone, One-more, One-cut-at-a-time, Least-values-are-least}
+use Rattle.octagon_theory.specs.Theorems.{Within, Least-sums-are-least, Every-limit-is-reached, Void-is-no-point, Limits-hold-the-points, One-point-is-left, Limits-can-be-shown, Limits-are-tight, Same, Points-decide-limits, Home-alone, One-more, One-cut-at-a-time, Least-values-are-least}
 use Rattle.octagon_theory.proofs.Chains.{least-is}
-use Rattle.octagon_theory.proofs.Entries.{home-above, home-entry-above, home-from-entry, home-other}
+use Rattle.octagon_theory.proofs.Entries.{value-even, home-above, home-entry-above, home-from-entry, home-other}
 use Rattle.octagon_theory.proofs.HomeMatrix.{home-tight}
-use Rattle.octagon_theory.proofs.Exact.{greatest-unique, exact-from-tight, limits-tight, within-below, below-within, limits-exact, point-within, void-no-point, void-decides, limit-void, limit-opposite, limit-off}
+use Rattle.octagon_theory.proofs.Exact.{greatest-unique, exact-from-tight, limits-tight, within-below, below-within, limits-exact, void-no-point, void-decides, limit-void, limit-off}
 use Rattle.octagon_theory.proofs.Halves.{half-is}
 use Rattle.octagon_theory.proofs.LeastPoint.{least-below, least-no-later, length-least-values}
 use Rattle.octagon_theory.proofs.Line.{cut-line, cut-keeps, cut-adds-none, cut-met, some-point}
-use Rattle.octagon_theory.proofs.Nodes.{opp-opp, opp-below, value-opp}
+use Rattle.octagon_theory.proofs.Nodes.{opp-below, value-opp}
 use Rattle.octagon_theory.proofs.Passing.{both-within, top-bounded}
 
 pub least-sums-are-least : Least-sums-are-least
@@ -41,6 +41,9 @@ void-is-no-point h ts = void-decides h ts
 
 pub limits-are-tight : Limits-are-tight
 limits-are-tight h ts sound = limits-tight h ts sound
+
+pub limits-hold-the-points : Limits-hold-the-points
+limits-hold-the-points h ts v x = (within-below h ts v x, λ k. below-within h ts v x (k .0) (k .1))
 
 -- ---- at any two nodes: the limit is 0, or both are on the line of an octagon that is not void
 pub by-limit : (P : ℕ → ℕ → ℤ → Type 0) (h : Home) (ts : List Cut) → ((p q : ℕ) → P p q (pos 0)) → (void h ts ≡ false → (p q : ℕ) → p < 2 * h .n → q < 2 * h .n → P p q (limit h ts p q)) → (p q : ℕ) → P p q (limit h ts p q)
@@ -73,11 +76,11 @@ limit-symmetric h ts p q = by (cases-bool (void h ts)) (cases-lt p (2 * h .n)) (
 pub limits-can-be-shown : Limits-can-be-shown
 limits-can-be-shown h passes ts = record {
   bounded = by-limit (λ p q z. within 2000000 z ≡ true) h ts (λ p q. refl) (λ v p q a b.
-    let g = limits-exact h ts v p q a b .reached in
-    let r = value-within h passes (g .0) (g .1 .0) p a in
-    let s = value-within h passes (g .0) (g .1 .0) q b in
-    let e = g .2 in
-    both-within 2000000 (limit h ts p q) (omega (arith, ints)) (omega (arith, ints)));
+      let g = limits-exact h ts v p q a b .reached in
+      let r = value-within h passes (g .0) (g .1 .0) p a in
+      let s = value-within h passes (g .0) (g .1 .0) q b in
+      let e = g .2 in
+      both-within 2000000 (limit h ts p q) (omega (arith, ints)) (omega (arith, ints)));
   symmetric = limit-symmetric h ts;
   even = λ p. by-limit (λ p q z. p ≡ q → z ≡ (half z +ℤ half z)) h ts (λ p q e. refl) (λ v p q a b e. subst (λ r. limit h ts p r ≡ (half (limit h ts p r) +ℤ half (limit h ts p r))) e (limits-tight h ts v .even p a)) p p refl;
 }
@@ -101,6 +104,7 @@ points-decide-limits h h′ ts ts′ e to from = (voids (cases-bool (void h ts))
     voids (inl v) w = v ∙ sym (same-void h′ h ts′ ts from v)
     voids (inr v) (inl w) = absurd (both-ways (void h ts) v (same-void h h′ ts ts′ to w))
     voids (inr v) (inr w) = v ∙ sym w
+
     limits : (void h ts ≡ true) ⊎ (void h ts ≡ false) → (void h′ ts′ ≡ true) ⊎ (void h′ ts′ ≡ false) → (p q : ℕ) → limit h ts p q ≡ limit h′ ts′ p q
     limits (inl v) w p q = limit-void h ts v p q ∙ sym (limit-void h′ ts′ (same-void h′ h ts′ ts from v) p q)
     limits (inr v) (inl w) p q = absurd (both-ways (void h ts) v (same-void h h′ ts ts′ to w))
@@ -117,8 +121,8 @@ pub home-alone : Home-alone
 unfolding entry
 home-alone h passes =
     let r = limits-from-tight h [] (home-entry h) (home-tight h passes)
-          (λ x w. (w .0 .0, λ p q a b. let l = w .0 .0 in home-entry-above h x (w .0) p q (omega arith) (omega arith)))
-          (λ x l k. (home-from-entry h [] x l (λ p q a b. k p q (omega arith) (omega arith)), tt)) in
+    (λ x w. (w .0 .0, λ p q a b. let l = w .0 .0 in home-entry-above h x (w .0) p q (omega arith) (omega arith)))
+    (λ x l k. (home-from-entry h [] x l (λ p q a b. k p q (omega arith) (omega arith)), tt)) in
     (r .0, λ p q a b d. r .1 p q a b ∙ home-other h p q d)
 
 -- ---- one cut more
@@ -162,8 +166,30 @@ module _ (h : Home) (ts : List Cut) (t : Cut) where
   one-more-lowers v a b k =
       let K = limits-tight h ts v in
       limits-from-tight h (ts ++ (t ∷ [])) (rounded (shortest (limit h ts) (opp (t .p)) (opp (t .q)) (t .c))) (cut-line (h .n) (limit h ts) K (t .p) (t .q) a b (t .c) k)
-        (λ x w. let r = within-below h ts v x (front x w) in let l = r .0 in (r .0, cut-keeps (h .n) (limit h ts) K (t .p) (t .q) a b (t .c) x (r .0) (r .1) (meets-last x ts t (w .1) (omega arith) (omega arith))))
-        (λ x l u. let w = below-within h ts v x l (cut-adds-none (h .n) (limit h ts) K (t .p) (t .q) a b (t .c) x l u) in (w .0, meets-push x ts t (w .1) (λ c d. cut-met (h .n) (limit h ts) K (t .p) (t .q) a b (t .c) x l u)))
+      (λ x w. let r = within-below h ts v x (front x w) in let l = r .0 in (r .0, cut-keeps (h .n) (limit h ts) K (t .p) (t .q) a b (t .c) x (r .0) (r .1) (meets-last x ts t (w .1) (omega arith) (omega arith))))
+      (λ x l u. let w = below-within h ts v x l (cut-adds-none (h .n) (limit h ts) K (t .p) (t .q) a b (t .c) x l u) in (w .0, meets-push x ts t (w .1) (λ c d. cut-met (h .n) (limit h ts) K (t .p) (t .q) a b (t .c) x l u)))
+
+  before : void h (ts ++ (t ∷ [])) ≡ false → void h ts ≡ false
+  before v = by (cases-bool (void h ts))
+    where
+      by : (void h ts ≡ true) ⊎ (void h ts ≡ false) → void h ts ≡ false
+      by (inl w) = absurd (both-ways (void h (ts ++ (t ∷ []))) v (same-void h h (ts ++ (t ∷ [])) ts front w))
+      by (inr w) = w
+
+  one-more-shrinks : void h (ts ++ (t ∷ [])) ≡ false → (p q : ℕ) → p < 2 * h .n → q < 2 * h .n → limit h (ts ++ (t ∷ [])) p q ≤ℤ limit h ts p q
+  one-more-shrinks v p q a b =
+      let r = limits-exact h (ts ++ (t ∷ [])) v p q a b .reached in
+      let g = limits-exact h ts (before v) p q a b .above (r .0) (front (r .0) (r .1)) in
+      let e = r .2 in
+      omega (arith, ints)
+
+  one-more-obeyed : void h (ts ++ (t ∷ [])) ≡ false → t .p < 2 * h .n → t .q < 2 * h .n → limit h (ts ++ (t ∷ [])) (t .p) (t .q) ≤ℤ t .c
+  one-more-obeyed v a b =
+      let r = limits-exact h (ts ++ (t ∷ [])) v (t .p) (t .q) a b .reached in
+      let l = r .1 .0 .0 in
+      let m = meets-last (r .0) ts t (r .1 .1) (omega arith) (omega arith) in
+      let e = r .2 in
+      omega (arith, ints)
 
   one-more : One-more h ts t
   one-more = record {
@@ -172,6 +198,8 @@ module _ (h : Home) (ts : List Cut) (t : Cut) where
     idle = one-more-idle;
     empties = one-more-empties;
     lowers = one-more-lowers;
+    shrinks = one-more-shrinks;
+    obeyed = one-more-obeyed;
   }
 
 pub one-cut-at-a-time : One-cut-at-a-time
@@ -180,6 +208,38 @@ one-cut-at-a-time h ts t = one-more h ts t
 -- ---- the least point
 pub least-values-are-least : Least-values-are-least
 least-values-are-least h ts v =
-    let K = limits-tight h ts v in
-    (below-within h ts v (least-values (limit h ts) [] (h .n)) (length-least-values (limit h ts) [] (h .n)) (least-below (h .n) (limit h ts) K (h .n) [] (omega arith) (λ p q a b. absurd (omega arith))),
-     λ x w. let r = within-below h ts v x w in least-no-later (h .n) (limit h ts) K (h .n) [] x (omega arith) (r .0) (r .1))
+    let K = limits-tight h ts v in (
+      below-within h ts v (least-values (limit h ts) [] (h .n)) (length-least-values (limit h ts) [] (h .n)) (least-below (h .n) (limit h ts) K (h .n) [] (omega arith) (λ p q a b. absurd (omega arith))),
+      λ x w. let r = within-below h ts v x w in least-no-later (h .n) (limit h ts) K (h .n) [] x (omega arith) (r .0) (r .1),
+    )
+
+-- ---- one point left
+module _ (h : Home) (ts : List Cut) (v : void h ts ≡ false) (narrow : (p : ℕ) → p < 2 * h .n → (limit h ts p p +ℤ limit h ts (opp p) (opp p)) ≡ pos 0) where
+  fixed : (x : List ℤ) → Within h ts x → (p : ℕ) → p < 2 * h .n → (value x p +ℤ value x p) ≡ limit h ts p p
+  fixed x w p a =
+      let b = opp-below (h .n) p a in
+      let f = limits-exact h ts v p p a a .above x w in
+      let g = limits-exact h ts v (opp p) (opp p) b b .above x w in
+      let e = narrow p a in
+      let o = value-opp x p in
+      omega (arith, ints)
+
+  same-point : (x y : List ℤ) → Within h ts x → Within h ts y → y ≡ x
+  same-point x y w u = ext-getD (pos 0) y x (u .0 .0 ∙ sym (w .0 .0)) (λ k b.
+      let l = u .0 .0 in
+      let e = fixed x w (2 * k) (omega arith) in
+      let f = fixed y u (2 * k) (omega arith) in
+      let g = value-even k x in
+      let i = value-even k y in
+      omega (arith, ints))
+
+  its-sums : (x : List ℤ) → Within h ts x → (p q : ℕ) → p < 2 * h .n → q < 2 * h .n → limit h ts p q ≡ (value x p +ℤ value x q)
+  its-sums x w p q a b =
+      let f = limits-exact h ts v p q a b .above x w in
+      let j = limits-tight h ts v .joined p q a b in
+      let e = fixed x w p a in
+      let g = fixed x w q b in
+      omega (arith, ints, half-is)
+
+pub one-point-is-left : One-point-is-left
+one-point-is-left h ts v narrow x w = (λ y u. same-point h ts v narrow x y w u, its-sums h ts v narrow x w)
