@@ -28,7 +28,7 @@ home-entry h p q = cond (eqb q (opp p)) (pos 0) (cond (eqb q p) (top-of h p +ℤ
 abbrev pub is-between : Cut → ℕ → ℕ → Bool
 is-between t p q = (eqb (t .p) p && eqb (t .q) q) || (eqb (t .p) q && eqb (t .q) p)
 
--- T: each cut lowers its two entries to at most c
+-- T: each cut lowers its two entries to at most c; one with a node that is not on the line lowers no entry on it
 unfoldable pub entry : Home → List Cut → ℕ → ℕ → ℤ
 entry h [] p q = home-entry h p q
 entry h (t ∷ ts) p q = cond (is-between t p q) (minZ (entry h ts p q) (t .c)) (entry h ts p q)
