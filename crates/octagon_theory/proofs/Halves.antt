@@ -3,7 +3,6 @@ use mathlib.Core.Path.{_≡_}
 use Prim.Native.Nat.{_+_, _*_, _≤_}
 use native.Mathlib.Omega.{arith}
 use lib.IntN.{ℤ, pos, negsuc, _+ℤ_}
-use lib.Signed.{_≤ℤ_}
 use Rattle.interface.specs.Numbers.{half}
 use borrow.Author.Differences.{up, down, ints}
 
@@ -11,11 +10,5 @@ pub half-is : (z : ℤ) → (2 * up (half z) + down z ≤ 2 * down (half z) + up
 half-is (pos n) = omega arith
 half-is (negsuc n) = omega arith
 
-pub half-twice : (z : ℤ) → half (z +ℤ z) ≡ z
-half-twice z = omega (arith, ints, half-is)
-
 pub half-sum : (a b : ℤ) → half ((a +ℤ a) +ℤ (b +ℤ b)) ≡ (a +ℤ b)
 half-sum a b = omega (arith, ints, half-is)
-
-pub half-mono : (a b : ℤ) → a ≤ℤ b → half a ≤ℤ half b
-half-mono a b h = omega (arith, ints, half-is)
