@@ -1,6 +1,6 @@
 // A reader over a lent text: it hands out each line's digits as a part of that text.
 ghost use mathlib.Core.Path.{_≡_};
-ghost use Prim.Native.Nat.{_+_, _<_, _≤_};
+ghost use Prim.Native.Nat.{_+_, _-_, _^_, _<_, _≤_};
 ghost use lib.ListN.{length, drop};
 ghost use Rattle.wire.specs.Readers.{left-of, seen, advanced};
 ghost use Rattle.wire.specs.Text.{line-length, next-line, count-up};
@@ -35,6 +35,14 @@ fn next_number(line: u16) -> u16
     if line < 65535 { line + 1 } else { line }
 }
 
+// The place behind a line feed.
+fn behind_feed(end: usize) -> usize
+    requires { ⌜ end < 2 ^ 64 - 1 ⌝ }
+    ensures { λ r. ⌜ r ≡ end + 1 ⌝ }
+{
+    end + 1
+}
+
 impl<'a> Reader<'a> {
     // A reader in front of the first line.
     pub fn new(text: &'a [u8]) -> Reader<'a>
@@ -61,7 +69,7 @@ impl<'a> Reader<'a> {
         let end = line_end(text, self.pos);
         let line = &text[self.pos..end];
         check_line(line, end < text.len())?;
-        self.pos = end + 1;
+        self.pos = behind_feed(end);
         Ok(Some(line))
     }
 }

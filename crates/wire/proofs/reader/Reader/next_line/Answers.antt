@@ -28,5 +28,5 @@ returns c =
     let long = part-long (c .args .self .now) (c .line-end-end .result) (Ok tt) (c .if-self-text .left) (c .line-end-end .ensures .value) (c .in-Continue-check-line .ensures tt .value) (c .line-end-end .ensures .bound) in
     record {
       value = sym (line-answered (c .args .self .now) (c .line-end-end .result) (Ok tt) (c .if-self-text .left) (c .line-end-end .ensures .value) (c .in-Continue-check-line .ensures tt .value));
-      after = line-moves (c .args .self .now) (c .line-end-end .result) (Ok tt) (c .if-self-text .left) (c .line-end-end .ensures .value) (c .in-Continue-check-line .ensures tt .value) (c .next-number-self .result) (c .line-end-end .result + 1) (c .next-number-self .ensures) (omega (arith, long, c .line-end-end .ensures .value));
+      after = line-moves (c .args .self .now) (c .line-end-end .result) (Ok tt) (c .if-self-text .left) (c .line-end-end .ensures .value) (c .in-Continue-check-line .ensures tt .value) (c .next-number-self .result) (c .behind-feed-self .result) (c .next-number-self .ensures) (omega (arith, long, c .line-end-end .ensures .value, c .behind-feed-self .ensures));
     }
