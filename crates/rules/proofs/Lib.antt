@@ -1,0 +1,4 @@
+pub mod Bounds
+pub mod Guards
+pub mod Pairs
+pub mod Values
