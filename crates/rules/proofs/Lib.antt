@@ -1,4 +1,5 @@
-pub mod Bounds
+pub mod Aparts
+pub mod CutsMet
 pub mod Guards
 pub mod Pairs
 pub mod Values

@@ -19,7 +19,7 @@ use Rattle.interface.specs.Rules.{RuleLaws}
 use Rattle.rules.specs.declared.pair.PairRule.{PairRule}
 use Rattle.rules.specs.Guards.{guarded}
 use Rattle.rules.specs.Pairs.{pair-core, pair-grounds, pair-none, pair-all, pair-meets, pair-cut}
-use Rattle.rules.proofs.Bounds.{cut-met}
+use Rattle.rules.proofs.CutsMet.{cut-met}
 use Rattle.rules.proofs.Guards.{Clear, CoreLaws, guarded-laws}
 use Rattle.rules.proofs.Values.{value-opp, opp-below}
 

@@ -26,14 +26,14 @@ value-odd x k =
 pub value-opp : (x : List ℤ) (p : ℕ) → value x (opp p) ≡ negℤ (value x p)
 value-opp x p =
     elim (cases-eq (p % 2) 0) [
-      inl e ↦
-        let here : p ≡ 2 * (p / 2) = omega arith in
-        let there : opp p ≡ 2 * (p / 2) + 1 = omega arith in
-        ap (value x) there ∙ value-odd x (p / 2) ∙ ap negℤ (sym (ap (value x) here ∙ value-even x (p / 2)))
-    | inr e ↦
-        let here : p ≡ 2 * (p / 2) + 1 = omega arith in
-        let there : opp p ≡ 2 * (p / 2) = omega arith in
-        ap (value x) there ∙ value-even x (p / 2) ∙ sym (negℤ-negℤ _) ∙ ap negℤ (sym (ap (value x) here ∙ value-odd x (p / 2)))
+      | inl e ↦
+          let here : p ≡ 2 * (p / 2) = omega arith in
+          let there : opp p ≡ 2 * (p / 2) + 1 = omega arith in
+          ap (value x) there ∙ value-odd x (p / 2) ∙ ap negℤ (sym (ap (value x) here ∙ value-even x (p / 2)))
+      | inr e ↦
+          let here : p ≡ 2 * (p / 2) + 1 = omega arith in
+          let there : opp p ≡ 2 * (p / 2) = omega arith in
+          ap (value x) there ∙ value-even x (p / 2) ∙ sym (negℤ-negℤ _) ∙ ap negℤ (sym (ap (value x) here ∙ value-odd x (p / 2)))
     ]
 
 pub opp-below : (p n : ℕ) → p < 2 * n → opp p < 2 * n

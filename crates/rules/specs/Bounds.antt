@@ -1,8 +1,8 @@
 -- Bounds on one value as cuts, and the range that a reading leaves a setting. Assumes nothing.
 use Prim.Native.Nat.{ℕ, _+_, _*_}
-use mathlib.Core.Bool.{cond}
+use mathlib.Core.Bool.{Bool, cond, _&&_}
 use lib.IntN.{ℤ, pos, negℤ, _+ℤ_}
-use lib.Signed.{ltZ}
+use lib.Signed.{ltZ, leZ}
 use Rattle.std.specs.Numbers.{maxZ}
 use Rattle.std.specs.declared.option.Option.{Option}
 use Rattle.std.specs.declared.option.Option.the-variants.{None}
@@ -12,9 +12,17 @@ use Rattle.interface.specs.Cuts.{cut-of}
 use Rattle.interface.specs.Numbers.{half}
 use Rattle.interface.specs.Readings.{limit-at}
 
+-- z lies from low to high
+abbrev pub between : ℤ → ℤ → ℤ → Bool
+between low high z = leZ low z && leZ z high
+
+-- the cut (p, q, c), where there is one; shut, so that proofs take it as one name
+unfoldable pub cut-at : ℕ → ℕ → ℤ → Option Cut
+cut-at p q c = cut-of p q c
+
 -- the cut (p, q, c), but none for a number above two million, and at least minus two million
 abbrev pub clipped : ℕ → ℕ → ℤ → Option Cut
-clipped p q c = cond (ltZ (pos 2000000) c) None (cut-of p q (maxZ c (negℤ (pos 2000000))))
+clipped p q c = cond (ltZ (pos 2000000) c) None (cut-at p q (maxZ c (negℤ (pos 2000000))))
 
 -- the value at node p is at most b: the value twice is at most twice b
 abbrev pub bounded : ℕ → ℤ → Option Cut

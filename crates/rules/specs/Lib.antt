@@ -1,3 +1,4 @@
+pub mod Aparts
 pub mod Bounds
 pub mod Guards
 pub mod Pairs

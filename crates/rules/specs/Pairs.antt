@@ -11,11 +11,11 @@ use Rattle.interface.specs.declared.cut.Cut.{Cut}
 use Rattle.interface.specs.declared.fault.RecordFault.{RecordFault}
 use Rattle.interface.specs.declared.fault.RecordFault.the-variants.{Node, Clash, Number}
 use Rattle.interface.specs.declared.reading.Reading.{Reading}
-use Rattle.interface.specs.Cuts.{cut-of}
 use Rattle.interface.specs.Nodes.{opp, value}
 use Rattle.interface.specs.Numbers.{within}
 use Rattle.interface.specs.Readings.{limit-at}
 use Rattle.rules.specs.declared.pair.PairRule.{PairRule}
+use Rattle.rules.specs.Bounds.{cut-at}
 use Rattle.rules.specs.Guards.{Core}
 
 -- in the frame p is byte 2, q byte 3, and c starts at byte 4
@@ -34,7 +34,7 @@ pair-all r g = leZ (limit-at g (r .p) (r .q)) (r .c)
 
 -- the rule as a cut
 abbrev pub pair-cut : PairRule → Option Cut
-pair-cut r = cut-of (r .p) (r .q) (r .c)
+pair-cut r = cut-at (r .p) (r .q) (r .c)
 
 abbrev pub pair-core : Core PairRule
 pair-core = record {

@@ -2,7 +2,7 @@
 ghost use mathlib.Core.Path.{_≡_};
 ghost use Prim.Native.Nat.{_*_};
 ghost use lib.Dec.{leb};
-ghost use Rattle.interface.specs.Numbers.{within};
+ghost use Rattle.rules.specs.Bounds.{between};
 ghost use Rattle.rules.specs.Guards.{verdict};
 use interface::verdict::Verdict;
 
@@ -13,11 +13,11 @@ pub fn node_off(p: u8, n: u8) -> bool
     p / 2 >= n
 }
 
-// Whether z is at most two million away from 0.
-pub fn within_two_million(z: i32) -> bool
-    ensures { λ r. ⌜ r ≡ within 2000000 z ⌝ }
+// Whether z lies from low to high.
+pub fn in_range(z: i32, low: i32, high: i32) -> bool
+    ensures { λ r. ⌜ r ≡ between low high z ⌝ }
 {
-    -2_000_000 <= z && z <= 2_000_000
+    low <= z && z <= high
 }
 
 // Nothing comes before all.

@@ -5,6 +5,10 @@ ghost use Rattle.interface.specs.Nodes.{value};
 ghost use Rattle.interface.specs.Points.{values-of};
 ghost use Rattle.rules.specs.Guards.{guarded};
 ghost use Rattle.rules.specs.Pairs.{pair-core, pair-meets, pair-none, pair-all, pair-cut};
+use super::bounds::cut_at;
+use super::guard::in_range;
+use super::guard::judged;
+use super::guard::node_off;
 use interface::cut::Cut;
 use interface::fault::RecordFault;
 use interface::node::opposite;
@@ -12,9 +16,6 @@ use interface::point::Point;
 use interface::reading::Reading;
 use interface::rule::Rule;
 use interface::verdict::Verdict;
-use super::guard::judged;
-use super::guard::node_off;
-use super::guard::within_two_million;
 
 // v(p) + v(q) is at most c.
 #[derive(Clone, Copy)]
@@ -47,7 +48,7 @@ impl PairRule {
     fn cut(&self) -> Option<Cut>
         ensures { λ r. ⌜ r ≡ pair-cut (now (self .entry)) ⌝ }
     {
-        Cut::new(self.p, self.q, self.c)
+        cut_at(self.p as u16, self.q as u16, self.c as i64)
     }
 }
 
@@ -64,7 +65,7 @@ pub impl Rule for PairRule as PairIsRule {
         if self.q == opposite(self.p) {
             return Err(RecordFault::Clash(3));
         }
-        if !within_two_million(self.c) {
+        if !in_range(self.c, -2_000_000, 2_000_000) {
             return Err(RecordFault::Number(4));
         }
         Ok(())
