@@ -1,4 +1,5 @@
 pub mod Aparts
 pub mod Bounds
 pub mod Guards
+pub mod Joins
 pub mod Pairs

@@ -2,4 +2,5 @@
 pub mod apart;
 mod bounds;
 mod guard;
+pub mod joined;
 pub mod pair;
