@@ -3,3 +3,4 @@ pub mod Bounds
 pub mod Guards
 pub mod Joins
 pub mod Pairs
+pub mod Steps

@@ -5,7 +5,7 @@ ghost use lib.IntN.{pos, negℤ, _+ℤ_, _-ℤ_};
 ghost use lib.Signed.{_≤ℤ_};
 ghost use Rattle.std.specs.Numbers.{maxZ};
 ghost use Rattle.interface.specs.Readings.{limit-at};
-ghost use Rattle.rules.specs.Bounds.{bounded, cut-at};
+ghost use Rattle.rules.specs.Bounds.{bounded, cut-at, low-in, high-in};
 use interface::cut::Cut;
 use interface::reading::Reading;
 
@@ -18,6 +18,22 @@ pub fn limit(reading: &Reading, p: u16, q: u16) -> i32
     } else {
         0
     }
+}
+
+// The least value of a setting within the reading.
+pub fn low(reading: &Reading, a: u8) -> i32
+    ensures { λ r. ⌜ r ≡ low-in (now (reading .entry)) a ⌝ }
+{
+    let node = 2 * a as u16 + 1;
+    -limit(reading, node, node).div_euclid(2)
+}
+
+// The greatest value of a setting within the reading.
+pub fn high(reading: &Reading, a: u8) -> i32
+    ensures { λ r. ⌜ r ≡ high-in (now (reading .entry)) a ⌝ }
+{
+    let node = 2 * a as u16;
+    limit(reading, node, node).div_euclid(2)
 }
 
 pub fn gap(x: i32, y: i32) -> i64

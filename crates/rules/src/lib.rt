@@ -4,3 +4,4 @@ mod bounds;
 mod guard;
 pub mod joined;
 pub mod pair;
+pub mod step;
