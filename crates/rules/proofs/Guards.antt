@@ -92,3 +92,7 @@ module _ {R : Type 0} (K : Core R) (L : CoreLaws K) where
     standing-met = λ n r t e x l m. standing-met n r (passes K n r) refl t e x l m;
     proposed-met = λ r g i t e x w m. proposed-met r g (passes K (g .n) r) refl i t e x w m;
   }
+
+pub cond-same : {A : Type 0} (b : Bool) (x : A) → cond b x x ≡ x
+cond-same true x = refl
+cond-same false x = refl

@@ -1,14 +1,15 @@
 -- Division rounded down, products with a range, and halves: a multiple of k moves in steps of k. Assumes nothing.
-use Prim.Native.Nat.{ℕ, zero, suc, _+_, _-_, _*_, _/_, _%_, _<_, _≤_}
+use Prim.Native.Nat.{ℕ, zero, suc, _+_, _-_, _*_, _/_, _%_, _^_, _<_, _≤_}
 use mathlib.Core.Bool.{Bool, true, false, cond}
 use mathlib.Core.Path.{_≡_, refl, ap, sym, _∙_}
-use native.Mathlib.Nat.{mul-add, mul-suc, mul-le-mul-left, div-add-mod, mod-lt}
+use native.Mathlib.Nat.{mul-add, mul-suc, mul-le-mul, mul-le-mul-left, div-add-mod, mod-lt}
 use native.Mathlib.Omega.{arith}
 use borrow.Author.Differences.{up, down, ints, product-is}
 use lib.IntN.{ℤ, pos, negsuc, negℤ, natAbs, _+ℤ_, _-ℤ_, _*ℤ_}
 use lib.Signed.{_≤ℤ_, _<ℤ_, ltZ}
 use Rattle.std.specs.Numbers.{divEuclid, remEuclid}
 use Rattle.std.proofs.shelf.Signed.{by-ltZ}
+use Rattle.std.proofs.shelf.Tests.{cond-false, le-ltb}
 use Rattle.interface.specs.Numbers.{half}
 
 -- z is k times its quotient and the rest, and the rest is below k
@@ -53,3 +54,23 @@ rest-one k h z q r e low high =
 pub half-is : (z : ℤ) → ((half z +ℤ half z) ≤ℤ z) × (z ≤ℤ (half z +ℤ half z +ℤ pos 1))
 half-is (pos a) = (omega (arith, ints), omega (arith, ints))
 half-is (negsuc a) = (omega (arith, ints), omega (arith, ints))
+
+pub product-bound : (k z : ℤ) → natAbs k ≤ 2 ^ 7 → natAbs z ≤ 2 ^ 31 → natAbs (k *ℤ z) ≤ 2 ^ 38
+product-bound (pos a) (pos b) h l = mul-le-mul h l
+product-bound (pos a) (negsuc b) h l = omega (arith, ints, mul-le-mul h l)
+product-bound (negsuc a) (pos b) h l = omega (arith, ints, mul-le-mul h l)
+product-bound (negsuc a) (negsuc b) h l = mul-le-mul h l
+
+pub times-neg : (m q : ℤ) → m *ℤ negℤ q ≡ negℤ (m *ℤ q)
+times-neg m (pos zero) = omega (arith, ints)
+times-neg m (pos (suc n)) = omega (arith, ints)
+times-neg m (negsuc n) = omega (arith, ints)
+
+-- a multiple of a number in a range is least and greatest at its ends, the other way round where the factor is below 0
+pub least-at : (k low high v : ℤ) → low ≤ℤ v → v ≤ℤ high → (k *ℤ cond (ltZ k (pos 0)) high low) ≤ℤ (k *ℤ v)
+least-at (pos a) low high v l u = rw (cond-false (ltZ (pos a) (pos 0)) high low (le-ltb a 0 (omega arith))) (times-mono a low v l)
+least-at (negsuc a) low high v l u = omega (arith, ints, times-mono (suc a) v high u)
+
+pub greatest-at : (k low high v : ℤ) → low ≤ℤ v → v ≤ℤ high → (k *ℤ v) ≤ℤ (k *ℤ cond (ltZ k (pos 0)) low high)
+greatest-at (pos a) low high v l u = rw (cond-false (ltZ (pos a) (pos 0)) low high (le-ltb a 0 (omega arith))) (times-mono a v high u)
+greatest-at (negsuc a) low high v l u = omega (arith, ints, times-mono (suc a) low v l)

@@ -6,4 +6,5 @@ pub mod Joins
 pub mod Pairs
 pub mod Ranges
 pub mod Steps
+pub mod Sums
 pub mod Values

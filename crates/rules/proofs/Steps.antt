@@ -1,5 +1,5 @@
 -- The step rule keeps its laws: the values that leave r lie m apart. Assumes nothing.
-use Prim.Native.Nat.{ℕ, suc, _+_, _*_, _<_}
+use Prim.Native.Nat.{ℕ, _+_, _*_, _<_}
 use mathlib.Core.Bool.{Bool, true, false, cond}
 use mathlib.Core.List.{List}
 use mathlib.Core.Path.{_≡_, refl, ap, ap₂, sym, _∙_}
@@ -19,12 +19,12 @@ use Rattle.interface.specs.Nodes.{value}
 use Rattle.interface.specs.Readings.{Within, Sums-of}
 use Rattle.interface.specs.Rules.{RuleLaws}
 use Rattle.rules.specs.declared.step.StepRule.{StepRule}
-use Rattle.rules.specs.Bounds.{bounded, low-in, high-in}
+use Rattle.rules.specs.Bounds.{equal, bounded, low-in, high-in}
 use Rattle.rules.specs.Guards.{guarded}
-use Rattle.rules.specs.Steps.{rest, step-core, step-grounds, step-meets, step-cut, equal, leaves, last-up-to, first-from, none-leaves, one-leaves}
+use Rattle.rules.specs.Steps.{rest, step-core, step-grounds, step-meets, step-cut, leaves, last-up-to, first-from, none-leaves, one-leaves}
 use Rattle.rules.proofs.CutsMet.{bound-met}
 use Rattle.rules.proofs.Guards.{Clear, CoreLaws, guarded-laws}
-use Rattle.rules.proofs.Integers.{quotient-rest, multiple-most, rest-one}
+use Rattle.rules.proofs.Integers.{times-neg, quotient-rest, multiple-most, rest-one}
 use Rattle.rules.proofs.Ranges.{range-from, range-to, range-low, range-high}
 use Rattle.rules.proofs.Values.{value-even, value-odd}
 
@@ -48,11 +48,6 @@ most (negsuc k) h q z l = absurd (omega (arith, ints))
 one-rest : (m : ℤ) → pos 0 <ℤ m → (z q r : ℤ) → z ≡ (m *ℤ q) +ℤ r → pos 0 ≤ℤ r → r <ℤ m → rest m z ≡ r
 one-rest (pos k) h z q r e low high = let p : 0 < k = omega (arith, ints) in rest-is k p z ∙ rest-one k p z q r e low high
 one-rest (negsuc k) h z q r e low high = absurd (omega (arith, ints))
-
-times-neg : (m q : ℤ) → m *ℤ negℤ q ≡ negℤ (m *ℤ q)
-times-neg m (pos Prim.Native.Nat.zero) = omega (arith, ints)
-times-neg m (pos (suc n)) = omega (arith, ints)
-times-neg m (negsuc n) = omega (arith, ints)
 
 left : (s : StepRule) (z : ℤ) → leaves s z ≡ true → rest (s .m) z ≡ s .r
 left s z e = grind (arith, ints)

@@ -16,6 +16,9 @@ use Rattle.interface.specs.Readings.{limit-at}
 abbrev pub between : ℤ → ℤ → ℤ → Bool
 between low high z = leZ low z && leZ z high
 
+abbrev pub equal : ℤ → ℤ → Bool
+equal y z = leZ y z && leZ z y
+
 -- the cut (p, q, c), where there is one; shut, so that proofs take it as one name
 unfoldable pub cut-at : ℕ → ℕ → ℤ → Option Cut
 cut-at p q c = cut-of p q c

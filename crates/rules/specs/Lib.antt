@@ -4,3 +4,4 @@ pub mod Guards
 pub mod Joins
 pub mod Pairs
 pub mod Steps
+pub mod Sums

@@ -14,7 +14,7 @@ use Rattle.interface.specs.declared.fault.RecordFault.{RecordFault}
 use Rattle.interface.specs.declared.fault.RecordFault.the-variants.{Node, Number}
 use Rattle.interface.specs.declared.reading.Reading.{Reading}
 use Rattle.rules.specs.declared.step.StepRule.{StepRule}
-use Rattle.rules.specs.Bounds.{between, bounded, low-in, high-in}
+use Rattle.rules.specs.Bounds.{between, equal, bounded, low-in, high-in}
 use Rattle.rules.specs.Guards.{Core}
 
 -- what z leaves when it is divided by m, rounded down; shut, so that proofs take it as one name
@@ -24,9 +24,6 @@ rest m z = cond (ltZ (pos 0) m) (remEuclid z m) (pos 0)
 -- in the frame a is byte 2, m starts at byte 3 and r at byte 7
 abbrev pub step-grounds : ℕ → StepRule → List (Bool × RecordFault)
 step-grounds n r = (leb n (r .a), Node 2) ∷ (not (between (pos 2) (pos 1000000) (r .m)), Number 3) ∷ (not (leZ (pos 0) (r .r) && ltZ (r .r) (r .m)), Number 7) ∷ []
-
-abbrev pub equal : ℤ → ℤ → Bool
-equal y z = leZ y z && leZ z y
 
 abbrev pub leaves : StepRule → ℤ → Bool
 leaves r z = equal (rest (r .m) z) (r .r)

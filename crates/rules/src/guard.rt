@@ -2,7 +2,7 @@
 ghost use mathlib.Core.Path.{_≡_};
 ghost use Prim.Native.Nat.{_*_};
 ghost use lib.Dec.{leb};
-ghost use Rattle.rules.specs.Bounds.{between};
+ghost use Rattle.rules.specs.Bounds.{between, equal};
 ghost use Rattle.rules.specs.Guards.{verdict};
 use interface::verdict::Verdict;
 
@@ -18,6 +18,12 @@ pub fn in_range(z: i32, low: i32, high: i32) -> bool
     ensures { λ r. ⌜ r ≡ between low high z ⌝ }
 {
     low <= z && z <= high
+}
+
+pub fn is_equal(y: i64, z: i64) -> bool
+    ensures { λ r. ⌜ r ≡ equal y z ⌝ }
+{
+    y <= z && z <= y
 }
 
 // Nothing comes before all.

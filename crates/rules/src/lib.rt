@@ -5,3 +5,4 @@ mod guard;
 pub mod joined;
 pub mod pair;
 pub mod step;
+pub mod sum;

@@ -4,12 +4,13 @@ ghost use Prim.Native.Nat.{_^_, _≤_};
 ghost use lib.IntN.{natAbs, negℤ, _-ℤ_};
 ghost use Rattle.interface.specs.Points.{values-of};
 ghost use Rattle.rules.specs.Guards.{guarded};
-ghost use Rattle.rules.specs.Steps.{step-core, step-meets, step-cut, rest, equal, leaves, last-up-to, first-from, none-leaves, one-leaves};
+ghost use Rattle.rules.specs.Steps.{step-core, step-meets, step-cut, rest, leaves, last-up-to, first-from, none-leaves, one-leaves};
 use super::bounds::bounded_by;
 use super::bounds::gap;
 use super::bounds::high;
 use super::bounds::low;
 use super::guard::in_range;
+use super::guard::is_equal;
 use super::guard::judged;
 use interface::cut::Cut;
 use interface::fault::RecordFault;
@@ -35,12 +36,6 @@ fn remainder(m: i32, z: i64) -> i64
         return 0;
     }
     z.rem_euclid(m as i64)
-}
-
-fn is_equal(y: i64, z: i64) -> bool
-    ensures { λ r. ⌜ r ≡ equal y z ⌝ }
-{
-    y <= z && z <= y
 }
 
 impl StepRule {
