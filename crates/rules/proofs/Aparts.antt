@@ -18,11 +18,11 @@ use Rattle.interface.specs.Readings.{Within, Sums-of}
 use Rattle.interface.specs.Rules.{RuleLaws}
 use Rattle.rules.specs.declared.apart.ApartRule.{ApartRule}
 use Rattle.rules.specs.Aparts.{apart-core, apart-grounds, apart-meets, apart-cut, least-gap, greatest-gap, far, all-near, all-far}
-use Rattle.rules.specs.Bounds.{cut-at}
-use Rattle.rules.specs.Guards.{guarded}
-use Rattle.rules.proofs.CutsMet.{cut-met}
-use Rattle.rules.proofs.Guards.{Clear, CoreLaws, guarded-laws}
-use Rattle.rules.proofs.Values.{value-even, value-odd}
+use Rattle.rule_base.specs.Bounds.{cut-at}
+use Rattle.rule_base.specs.Guards.{guarded}
+use Rattle.rule_base.proofs.CutsMet.{cut-met}
+use Rattle.rule_base.proofs.Guards.{Clear, CoreLaws, guarded-laws}
+use Rattle.rule_base.proofs.Values.{value-even, value-odd}
 
 near-not-far : (d low high z : ℤ) → low ≤ℤ z → z ≤ℤ high → all-near d low high ≡ true → far d z ≡ false
 near-not-far d low high z h k e = grind (arith, ints)

@@ -1,10 +1,4 @@
 pub mod Aparts
-pub mod CutsMet
-pub mod Guards
-pub mod Integers
 pub mod Joins
 pub mod Pairs
-pub mod Ranges
 pub mod Steps
-pub mod Sums
-pub mod Values

@@ -17,11 +17,11 @@ use Rattle.interface.specs.Nodes.{opp, value}
 use Rattle.interface.specs.Readings.{limit-at, Within, Sums-of}
 use Rattle.interface.specs.Rules.{RuleLaws}
 use Rattle.rules.specs.declared.pair.PairRule.{PairRule}
-use Rattle.rules.specs.Guards.{guarded}
+use Rattle.rule_base.specs.Guards.{guarded}
 use Rattle.rules.specs.Pairs.{pair-core, pair-grounds, pair-none, pair-all, pair-meets, pair-cut}
-use Rattle.rules.proofs.CutsMet.{cut-met}
-use Rattle.rules.proofs.Guards.{Clear, CoreLaws, guarded-laws}
-use Rattle.rules.proofs.Values.{value-opp, opp-below}
+use Rattle.rule_base.proofs.CutsMet.{cut-met}
+use Rattle.rule_base.proofs.Guards.{Clear, CoreLaws, guarded-laws}
+use Rattle.rule_base.proofs.Values.{value-opp, opp-below}
 
 none-meets : (r : PairRule) (g : Reading) → Clear (pair-grounds (g .n) r) → pair-none r g ≡ true → (x : List ℤ) → Within g x → pair-meets r x ≡ false
 none-meets r g ok e x w =

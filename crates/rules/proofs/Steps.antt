@@ -19,14 +19,14 @@ use Rattle.interface.specs.Nodes.{value}
 use Rattle.interface.specs.Readings.{Within, Sums-of}
 use Rattle.interface.specs.Rules.{RuleLaws}
 use Rattle.rules.specs.declared.step.StepRule.{StepRule}
-use Rattle.rules.specs.Bounds.{equal, bounded, low-in, high-in}
-use Rattle.rules.specs.Guards.{guarded}
+use Rattle.rule_base.specs.Bounds.{equal, bounded, low-in, high-in}
+use Rattle.rule_base.specs.Guards.{guarded}
 use Rattle.rules.specs.Steps.{rest, step-core, step-grounds, step-meets, step-cut, leaves, last-up-to, first-from, none-leaves, one-leaves}
-use Rattle.rules.proofs.CutsMet.{bound-met}
-use Rattle.rules.proofs.Guards.{Clear, CoreLaws, guarded-laws}
-use Rattle.rules.proofs.Integers.{times-neg, quotient-rest, multiple-most, rest-one}
-use Rattle.rules.proofs.Ranges.{range-from, range-to, range-low, range-high}
-use Rattle.rules.proofs.Values.{value-even, value-odd}
+use Rattle.rule_base.proofs.CutsMet.{bound-met}
+use Rattle.rule_base.proofs.Guards.{Clear, CoreLaws, guarded-laws}
+use Rattle.rule_base.proofs.Integers.{times-neg, quotient-rest, multiple-most, rest-one}
+use Rattle.rule_base.proofs.Ranges.{range-from, range-to, range-low, range-high}
+use Rattle.rule_base.proofs.Values.{value-even, value-odd}
 
 rest-is : (k : ℕ) → 0 < k → (z : ℤ) → rest (pos k) z ≡ remEuclid z (pos k)
 unfolding rest

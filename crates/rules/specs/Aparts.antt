@@ -14,8 +14,8 @@ use Rattle.interface.specs.declared.fault.RecordFault.the-variants.{Node, Clash
 use Rattle.interface.specs.declared.reading.Reading.{Reading}
 use Rattle.interface.specs.Readings.{limit-at}
 use Rattle.rules.specs.declared.apart.ApartRule.{ApartRule}
-use Rattle.rules.specs.Bounds.{between, cut-at}
-use Rattle.rules.specs.Guards.{Core}
+use Rattle.rule_base.specs.Bounds.{between, cut-at}
+use Rattle.rule_base.specs.Guards.{Core}
 
 -- in the frame a is byte 2, b byte 3, and d starts at byte 4
 abbrev pub apart-grounds : ℕ → ApartRule → List (Bool × RecordFault)

@@ -15,8 +15,8 @@ use Rattle.interface.specs.Nodes.{opp, value}
 use Rattle.interface.specs.Numbers.{within}
 use Rattle.interface.specs.Readings.{limit-at}
 use Rattle.rules.specs.declared.pair.PairRule.{PairRule}
-use Rattle.rules.specs.Bounds.{cut-at}
-use Rattle.rules.specs.Guards.{Core}
+use Rattle.rule_base.specs.Bounds.{cut-at}
+use Rattle.rule_base.specs.Guards.{Core}
 
 -- in the frame p is byte 2, q byte 3, and c starts at byte 4
 abbrev pub pair-grounds : ℕ → PairRule → List (Bool × RecordFault)

@@ -14,8 +14,8 @@ use Rattle.interface.specs.declared.fault.RecordFault.{RecordFault}
 use Rattle.interface.specs.declared.fault.RecordFault.the-variants.{Node, Number}
 use Rattle.interface.specs.declared.reading.Reading.{Reading}
 use Rattle.rules.specs.declared.step.StepRule.{StepRule}
-use Rattle.rules.specs.Bounds.{between, equal, bounded, low-in, high-in}
-use Rattle.rules.specs.Guards.{Core}
+use Rattle.rule_base.specs.Bounds.{between, equal, bounded, low-in, high-in}
+use Rattle.rule_base.specs.Guards.{Core}
 
 -- what z leaves when it is divided by m, rounded down; shut, so that proofs take it as one name
 unfoldable pub rest : ℤ → ℤ → ℤ

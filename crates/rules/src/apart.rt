@@ -2,19 +2,19 @@
 ghost use mathlib.Core.Path.{_≡_};
 ghost use Rattle.interface.specs.Points.{values-of};
 ghost use Rattle.rules.specs.Aparts.{apart-core, apart-meets, apart-cut, least-gap, greatest-gap, far, all-near, all-far};
-ghost use Rattle.rules.specs.Guards.{guarded};
-use super::bounds::cut_at;
-use super::bounds::gap;
-use super::bounds::limit;
-use super::bounds::negative;
-use super::guard::in_range;
-use super::guard::judged;
+ghost use Rattle.rule_base.specs.Guards.{guarded};
 use interface::cut::Cut;
 use interface::fault::RecordFault;
 use interface::point::Point;
 use interface::reading::Reading;
 use interface::rule::Rule;
 use interface::verdict::Verdict;
+use rule_base::bounds::cut_at;
+use rule_base::bounds::gap;
+use rule_base::bounds::limit;
+use rule_base::bounds::negative;
+use rule_base::guard::in_range;
+use rule_base::guard::judged;
 
 // Settings a and b differ by at least d.
 #[derive(Clone, Copy)]

@@ -3,12 +3,8 @@ ghost use mathlib.Core.Path.{_≡_};
 ghost use lib.IntN.{_+ℤ_};
 ghost use Rattle.interface.specs.Nodes.{value};
 ghost use Rattle.interface.specs.Points.{values-of};
-ghost use Rattle.rules.specs.Guards.{guarded};
+ghost use Rattle.rule_base.specs.Guards.{guarded};
 ghost use Rattle.rules.specs.Pairs.{pair-core, pair-meets, pair-none, pair-all, pair-cut};
-use super::bounds::cut_at;
-use super::guard::in_range;
-use super::guard::judged;
-use super::guard::node_off;
 use interface::cut::Cut;
 use interface::fault::RecordFault;
 use interface::node::opposite;
@@ -16,6 +12,10 @@ use interface::point::Point;
 use interface::reading::Reading;
 use interface::rule::Rule;
 use interface::verdict::Verdict;
+use rule_base::bounds::cut_at;
+use rule_base::guard::in_range;
+use rule_base::guard::judged;
+use rule_base::guard::node_off;
 
 // v(p) + v(q) is at most c.
 #[derive(Clone, Copy)]

@@ -3,21 +3,21 @@ ghost use mathlib.Core.Path.{_≡_};
 ghost use Prim.Native.Nat.{_^_, _≤_};
 ghost use lib.IntN.{natAbs, negℤ, _-ℤ_};
 ghost use Rattle.interface.specs.Points.{values-of};
-ghost use Rattle.rules.specs.Guards.{guarded};
+ghost use Rattle.rule_base.specs.Guards.{guarded};
 ghost use Rattle.rules.specs.Steps.{step-core, step-meets, step-cut, rest, leaves, last-up-to, first-from, none-leaves, one-leaves};
-use super::bounds::bounded_by;
-use super::bounds::gap;
-use super::bounds::high;
-use super::bounds::low;
-use super::guard::in_range;
-use super::guard::is_equal;
-use super::guard::judged;
 use interface::cut::Cut;
 use interface::fault::RecordFault;
 use interface::point::Point;
 use interface::reading::Reading;
 use interface::rule::Rule;
 use interface::verdict::Verdict;
+use rule_base::bounds::bounded_by;
+use rule_base::bounds::gap;
+use rule_base::bounds::high;
+use rule_base::bounds::low;
+use rule_base::guard::in_range;
+use rule_base::guard::is_equal;
+use rule_base::guard::judged;
 
 // Setting a divided by m, rounded down, leaves r.
 #[derive(Clone, Copy)]

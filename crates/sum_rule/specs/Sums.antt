@@ -14,10 +14,10 @@ use Rattle.interface.specs.declared.fault.RecordFault.{RecordFault}
 use Rattle.interface.specs.declared.fault.RecordFault.the-variants.{Node, Clash, Number, Empty}
 use Rattle.interface.specs.declared.reading.Reading.{Reading}
 use Rattle.interface.specs.Numbers.{within}
-use Rattle.rules.specs.declared.sum.SumRule.{SumRule}
-use Rattle.rules.specs.declared.sum.Term.{Term}
-use Rattle.rules.specs.Bounds.{bounded, low-in, high-in, equal}
-use Rattle.rules.specs.Guards.{Core}
+use Rattle.sum_rule.specs.declared.sum.SumRule.{SumRule}
+use Rattle.sum_rule.specs.declared.sum.Term.{Term}
+use Rattle.rule_base.specs.Bounds.{bounded, low-in, high-in, equal}
+use Rattle.rule_base.specs.Guards.{Core}
 
 -- the product; shut, so that proofs take it as one name
 unfoldable pub times : ℤ → ℤ → ℤ

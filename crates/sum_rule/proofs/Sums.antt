@@ -18,16 +18,16 @@ use Rattle.interface.specs.Cuts.{Meets}
 use Rattle.interface.specs.Nodes.{value}
 use Rattle.interface.specs.Readings.{Within, Sums-of}
 use Rattle.interface.specs.Rules.{RuleLaws}
-use Rattle.rules.specs.declared.sum.SumRule.{SumRule}
-use Rattle.rules.specs.declared.sum.Term.{Term}
-use Rattle.rules.specs.Bounds.{equal, bounded, low-in, high-in}
-use Rattle.rules.specs.Guards.{guarded}
-use Rattle.rules.specs.Sums.{times, sum-core, sum-grounds, sum-meets, sum-none, sum-all, sum-cut, term-cut, left-for, is-empty, term-at, least-of, greatest-of, three}
-use Rattle.rules.proofs.CutsMet.{bound-met}
-use Rattle.rules.proofs.Guards.{Clear, CoreLaws, guarded-laws}
-use Rattle.rules.proofs.Integers.{times-neg, floor-most, least-at, greatest-at}
-use Rattle.rules.proofs.Ranges.{range-from, range-to, range-low, range-high}
-use Rattle.rules.proofs.Values.{value-even, value-odd}
+use Rattle.sum_rule.specs.declared.sum.SumRule.{SumRule}
+use Rattle.sum_rule.specs.declared.sum.Term.{Term}
+use Rattle.rule_base.specs.Bounds.{equal, bounded, low-in, high-in}
+use Rattle.rule_base.specs.Guards.{guarded}
+use Rattle.sum_rule.specs.Sums.{times, sum-core, sum-grounds, sum-meets, sum-none, sum-all, sum-cut, term-cut, left-for, is-empty, term-at, least-of, greatest-of, three}
+use Rattle.rule_base.proofs.CutsMet.{bound-met}
+use Rattle.rule_base.proofs.Guards.{Clear, CoreLaws, guarded-laws}
+use Rattle.rule_base.proofs.Integers.{times-neg, floor-most, least-at, greatest-at}
+use Rattle.rule_base.proofs.Ranges.{range-from, range-to, range-low, range-high}
+use Rattle.rule_base.proofs.Values.{value-even, value-odd}
 
 end-same : (b : Bool) (y z v : ℤ) → y ≡ v → z ≡ v → cond b y z ≡ v
 end-same true y z v e f = e

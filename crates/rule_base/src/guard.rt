@@ -2,8 +2,8 @@
 ghost use mathlib.Core.Path.{_≡_};
 ghost use Prim.Native.Nat.{_*_};
 ghost use lib.Dec.{leb};
-ghost use Rattle.rules.specs.Bounds.{between, equal};
-ghost use Rattle.rules.specs.Guards.{verdict};
+ghost use Rattle.rule_base.specs.Bounds.{between, equal};
+ghost use Rattle.rule_base.specs.Guards.{verdict};
 use interface::verdict::Verdict;
 
 // Whether a node is not on a line of n settings.

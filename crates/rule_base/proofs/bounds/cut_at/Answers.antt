@@ -5,8 +5,8 @@ use native.Mathlib.Omega.{arith}
 use borrow.Author.Needs.{needs}
 use borrow.Author.Differences.{ints}
 use Rattle.interface.specs.Cuts.{cut-of}
-use Rattle.rules.specs.Bounds.{cut-at}
-use Rattle.rules.proofs.bounds.cut_at.Needs as need
+use Rattle.rule_base.specs.Bounds.{cut-at}
+use Rattle.rule_base.proofs.bounds.cut_at.Needs as need
 
 pub returns-then-c-le2000000 : need.returns-then-c-le2000000
 unfolding cut-at

@@ -21,7 +21,7 @@ use Rattle.interface.specs.Cuts.{Meets}
 use Rattle.interface.specs.Grounds.{first-fault}
 use Rattle.interface.specs.Readings.{Within, Sums-of}
 use Rattle.interface.specs.Rules.{RuleLaws}
-use Rattle.rules.specs.Guards.{Core, verdict, passes, guarded}
+use Rattle.rule_base.specs.Guards.{Core, verdict, passes, guarded}
 
 -- no ground of the list holds
 abbrev pub Clear : List (Bool × RecordFault) → Type 0

@@ -5,7 +5,7 @@ ghost use lib.IntN.{pos, negℤ, _+ℤ_, _-ℤ_};
 ghost use lib.Signed.{_≤ℤ_};
 ghost use Rattle.std.specs.Numbers.{maxZ};
 ghost use Rattle.interface.specs.Readings.{limit-at};
-ghost use Rattle.rules.specs.Bounds.{bounded, cut-at, low-in, high-in};
+ghost use Rattle.rule_base.specs.Bounds.{bounded, cut-at, low-in, high-in};
 use interface::cut::Cut;
 use interface::reading::Reading;
 

@@ -16,7 +16,7 @@ use Rattle.interface.specs.declared.cut.Cut.{Cut}
 use Rattle.interface.specs.CutBounds.{valid-cut}
 use Rattle.interface.specs.Cuts.{Meets, cut-if}
 use Rattle.interface.specs.Nodes.{value}
-use Rattle.rules.specs.Bounds.{cut-at, bounded}
+use Rattle.rule_base.specs.Bounds.{cut-at, bounded}
 
 is-cut : (p q : ℕ) (c : ℤ) (b : Bool) (e : valid-cut p q c ≡ b) (t : Cut) → cut-if p q c b e ≡ Some t → (t .p ≡ p) × (t .q ≡ q) × (t .c ≡ c)
 is-cut p q c true e t h = let same : t ≡ record { p = p; q = q; c = c; ok = e } = cc in (ap (λ (s : Cut). s .p) same, ap (λ (s : Cut). s .q) same, ap (λ (s : Cut). s .c) same)

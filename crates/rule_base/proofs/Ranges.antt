@@ -9,9 +9,9 @@ use lib.ListN.{getD}
 use lib.Signed.{_≤ℤ_}
 use Rattle.interface.specs.declared.reading.Reading.{Reading}
 use Rattle.interface.specs.Readings.{limit-at, Within, Sums-of}
-use Rattle.rules.specs.Bounds.{low-in, high-in}
-use Rattle.rules.proofs.Integers.{half-is}
-use Rattle.rules.proofs.Values.{value-even, value-odd}
+use Rattle.rule_base.specs.Bounds.{low-in, high-in}
+use Rattle.rule_base.proofs.Integers.{half-is}
+use Rattle.rule_base.proofs.Values.{value-even, value-odd}
 
 module _ (g : Reading) (x : List ℤ) (a : ℕ) (on : a < g .n) where
   pub range-from : Within g x → low-in g a ≤ℤ getD x a (pos 0)

@@ -6,9 +6,9 @@ use mir.Syntax.{w8, w32, w64}
 use mir.Val.{toZ, ofZ, SFits}
 use borrow.Author.Differences.{ints}
 use Rattle.std.proofs.shelf.Signed.{toZ-ofZ}
-use Rattle.rules.specs.Sums.{times}
-use Rattle.rules.proofs.Integers.{product-bound}
-use Rattle.rules.proofs.sum.product.Needs as need
+use Rattle.sum_rule.specs.Sums.{times}
+use Rattle.rule_base.proofs.Integers.{product-bound}
+use Rattle.sum_rule.proofs.sum.product.Needs as need
 
 wide : (y : ℤ) → natAbs y ≤ 2 ^ 38 → SFits w64 y
 wide y h = omega (arith, ints)

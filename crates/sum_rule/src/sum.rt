@@ -6,21 +6,21 @@ ghost use lib.IntN.{natAbs, pos};
 ghost use lib.Signed.{ltZ};
 ghost use Rattle.std.specs.Numbers.{divEuclid};
 ghost use Rattle.interface.specs.Points.{values-of};
-ghost use Rattle.rules.specs.Bounds.{low-in, high-in};
-ghost use Rattle.rules.specs.Guards.{guarded};
-ghost use Rattle.rules.specs.Sums.{sum-core, sum-meets, sum-none, sum-all, times, is-empty, clash, wrong-number, term-at, least-of, greatest-of, three, left-for, term-cut, sum-cut};
-use super::bounds::bounded_by;
-use super::bounds::high;
-use super::bounds::low;
-use super::guard::in_range;
-use super::guard::is_equal;
-use super::guard::judged;
+ghost use Rattle.rule_base.specs.Bounds.{low-in, high-in};
+ghost use Rattle.rule_base.specs.Guards.{guarded};
+ghost use Rattle.sum_rule.specs.Sums.{sum-core, sum-meets, sum-none, sum-all, times, is-empty, clash, wrong-number, term-at, least-of, greatest-of, three, left-for, term-cut, sum-cut};
 use interface::cut::Cut;
 use interface::fault::RecordFault;
 use interface::point::Point;
 use interface::reading::Reading;
 use interface::rule::Rule;
 use interface::verdict::Verdict;
+use rule_base::bounds::bounded_by;
+use rule_base::bounds::high;
+use rule_base::bounds::low;
+use rule_base::guard::in_range;
+use rule_base::guard::is_equal;
+use rule_base::guard::judged;
 
 // A coefficient times a setting; a coefficient 0 stands for no term.
 #[derive(Clone, Copy)]
