@@ -21,7 +21,7 @@ use Rattle.interface.specs.Rules.{RuleLaws}
 use Rattle.rules.specs.declared.step.StepRule.{StepRule}
 use Rattle.rule_base.specs.Bounds.{equal, bounded, low-in, high-in}
 use Rattle.rule_base.specs.Guards.{guarded}
-use Rattle.rules.specs.Steps.{rest, step-core, step-grounds, step-meets, step-cut, leaves, last-up-to, first-from, none-leaves, one-leaves}
+use Rattle.rules.specs.Steps.{rest, step-core, step-grounds, step-meets, step-cut, leaves, last-up-to, first-from, Divides, Last-up-to, First-from, none-leaves, one-leaves}
 use Rattle.rule_base.proofs.CutsMet.{bound-met}
 use Rattle.rule_base.proofs.Guards.{Clear, CoreLaws, guarded-laws}
 use Rattle.rule_base.proofs.Integers.{times-neg, quotient-rest, multiple-most, rest-one}
@@ -89,11 +89,23 @@ module _ (s : StepRule) (h : pos 0 <ℤ s .m) where
         let back = times-neg (s .m) (q .0) in
         leave s _ (one-rest (s .m) h (first-from s z) (negℤ (q .0)) (s .r) (omega (arith, ints, q .1, back)) low high)
 
+    is-last : (z : ℤ) → Last-up-to s z (last-up-to s z)
+    is-last z = record { inside = last-rest z; fits = last-leaves z; most = λ w l e. last-most w z e l }
+
+    is-first : (z : ℤ) → First-from s z (first-from s z)
+    is-first z = record { inside = first-rest z; fits = first-leaves z; least = λ w l e. first-least w z e l }
+
     -- what cannot be judged on one value does not exist
     one-known : (v : ℤ) → none-leaves s v v ≡ false → one-leaves s v v ≡ false → ⊥
     one-known v e f =
         let same : last-up-to s v ≡ v = omega (arith, ints, last-rest v, e) in
         both-ways _ f (grind (arith, ints, last-leaves v, ap (leaves s) same))
+
+pub last-is : (s : StepRule) → Divides s → (z : ℤ) → Last-up-to s z (last-up-to s z)
+last-is s d z = is-last s (omega (arith, ints)) (d .0) (d .1) z
+
+pub first-is : (s : StepRule) → Divides s → (z : ℤ) → First-from s z (first-from s z)
+first-is s d z = is-first s (omega (arith, ints)) (d .0) (d .1) z
 
 none-leave : (s : StepRule) → pos 0 <ℤ s .m → (low high v : ℤ) → low ≤ℤ v → v ≤ℤ high → none-leaves s low high ≡ true → leaves s v ≡ false
 none-leave s h low high v l u e = by (leaves s v) refl

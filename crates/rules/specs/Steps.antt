@@ -1,11 +1,12 @@
 -- The step rule: a setting divided by m leaves r. Assumes nothing.
 use Prim.Native.Nat.{ℕ, _+_, _*_}
-use mathlib.Core.Bool.{Bool, not, cond, _&&_}
+use mathlib.Core.Bool.{Bool, true, not, cond, _&&_}
 use mathlib.Core.List.{List, [], _∷_}
+use mathlib.Core.Path.{_≡_}
 use lib.Dec.{leb, eqb}
 use lib.IntN.{ℤ, pos, negℤ, _+ℤ_, _-ℤ_}
 use lib.ListN.{getD}
-use lib.Signed.{ltZ, leZ}
+use lib.Signed.{ltZ, leZ, _≤ℤ_, _<ℤ_}
 use Rattle.std.specs.Numbers.{remEuclid}
 use Rattle.std.specs.declared.option.Option.{Option}
 use Rattle.std.specs.declared.option.Option.the-variants.{None}
@@ -37,6 +38,22 @@ last-up-to r z = z -ℤ rest (r .m) (z -ℤ r .r)
 
 abbrev pub first-from : StepRule → ℤ → ℤ
 first-from r z = z +ℤ rest (r .m) (r .r -ℤ z)
+
+-- the numbers pass the check: r is from 0 to m - 1
+abbrev pub Divides : StepRule → Type 0
+Divides r = (pos 0 ≤ℤ r .r) × (r .r <ℤ r .m)
+
+-- v is the greatest value up to z that leaves r
+pub record Last-up-to (r : StepRule) (z v : ℤ) : Type 0 where
+  pub inside : v ≤ℤ z
+  pub fits : leaves r v ≡ true
+  pub most : (w : ℤ) → w ≤ℤ z → leaves r w ≡ true → w ≤ℤ v
+
+-- v is the least value from z that leaves r
+pub record First-from (r : StepRule) (z v : ℤ) : Type 0 where
+  pub inside : z ≤ℤ v
+  pub fits : leaves r v ≡ true
+  pub least : (w : ℤ) → z ≤ℤ w → leaves r w ≡ true → v ≤ℤ w
 
 -- no value from low to high leaves r
 abbrev pub none-leaves : StepRule → ℤ → ℤ → Bool

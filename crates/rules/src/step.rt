@@ -4,7 +4,7 @@ ghost use Prim.Native.Nat.{_^_, _≤_};
 ghost use lib.IntN.{natAbs, negℤ, _-ℤ_};
 ghost use Rattle.interface.specs.Points.{values-of};
 ghost use Rattle.rule_base.specs.Guards.{guarded};
-ghost use Rattle.rules.specs.Steps.{step-core, step-meets, step-cut, rest, leaves, last-up-to, first-from, none-leaves, one-leaves};
+ghost use Rattle.rules.specs.Steps.{step-core, step-meets, step-cut, rest, leaves, last-up-to, first-from, Divides, Last-up-to, First-from, none-leaves, one-leaves};
 use interface::cut::Cut;
 use interface::fault::RecordFault;
 use interface::point::Point;
@@ -67,14 +67,12 @@ impl StepRule {
         remainder(self.m, gap(self.r, z))
     }
 
-    // The greatest value up to z that leaves r.
     fn last_up_to(&self, z: i32) -> i64
         ensures { λ r. ⌜ r ≡ last-up-to (now (self .entry)) z ⌝ }
     {
         z as i64 - self.lag(z)
     }
 
-    // The least value from z that leaves r.
     fn first_from(&self, z: i32) -> i64
         ensures value { λ r. ⌜ r ≡ first-from (now (self .entry)) z ⌝ }
         ensures bound { λ r. ⌜ natAbs r ≤ 2 ^ 33 ⌝ }
@@ -82,17 +80,34 @@ impl StepRule {
         z as i64 + self.lead(z)
     }
 
+    // The greatest value up to z that leaves r.
+    pub fn greatest_up_to(&self, z: i32) -> i64
+        ensures value { λ r. ⌜ r ≡ last-up-to (now (self .entry)) z ⌝ }
+        ensures last { λ r. ⌜ (Divides (now (self .entry)) → Last-up-to (now (self .entry)) z r) ⌝ }
+    {
+        self.last_up_to(z)
+    }
+
+    // The least value from z that leaves r.
+    pub fn least_from(&self, z: i32) -> i64
+        ensures value { λ r. ⌜ r ≡ first-from (now (self .entry)) z ⌝ }
+        ensures bound { λ r. ⌜ natAbs r ≤ 2 ^ 33 ⌝ }
+        ensures first { λ r. ⌜ (Divides (now (self .entry)) → First-from (now (self .entry)) z r) ⌝ }
+    {
+        self.first_from(z)
+    }
+
     // The negative is at most this.
     fn negative_from(&self, z: i32) -> i64
         ensures { λ r. ⌜ r ≡ negℤ (first-from (now (self .entry)) z) ⌝ }
     {
-        -self.first_from(z)
+        -self.least_from(z)
     }
 
     fn none_leaves(&self, low: i32, high: i32) -> bool
         ensures { λ r. ⌜ r ≡ none-leaves (now (self .entry)) low high ⌝ }
     {
-        self.last_up_to(high) < low as i64
+        self.greatest_up_to(high) < low as i64
     }
 
     fn one_leaves(&self, low: i32, high: i32) -> bool
@@ -106,7 +121,7 @@ impl StepRule {
     {
         let node = 2 * self.a as u16;
         if i == 0 {
-            return bounded_by(node, self.last_up_to(high(reading, self.a)));
+            return bounded_by(node, self.greatest_up_to(high(reading, self.a)));
         }
         if i == 1 {
             return bounded_by(node + 1, self.negative_from(low(reading, self.a)));
