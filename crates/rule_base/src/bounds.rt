@@ -24,16 +24,16 @@ pub fn limit(reading: &Reading, p: u16, q: u16) -> i32
 pub fn low(reading: &Reading, a: u8) -> i32
     ensures { λ r. ⌜ r ≡ low-in (now (reading .entry)) a ⌝ }
 {
-    let node = 2 * a as u16 + 1;
-    -limit(reading, node, node).div_euclid(2)
+    let odd = 2 * a as u16 + 1;
+    -limit(reading, odd, odd).div_euclid(2)
 }
 
 // The greatest value of a setting within the reading.
 pub fn high(reading: &Reading, a: u8) -> i32
     ensures { λ r. ⌜ r ≡ high-in (now (reading .entry)) a ⌝ }
 {
-    let node = 2 * a as u16;
-    limit(reading, node, node).div_euclid(2)
+    let even = 2 * a as u16;
+    limit(reading, even, even).div_euclid(2)
 }
 
 pub fn gap(x: i32, y: i32) -> i64
