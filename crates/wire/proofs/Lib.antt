@@ -1,0 +1,5 @@
+pub mod BigEndian
+pub mod Codecs
+pub mod Hex
+pub mod Lookup
+pub mod Written

@@ -1,0 +1,57 @@
+// The grounds on which a frame is refused before its fields are read.
+ghost use mathlib.Core.Path.{_≡_};
+ghost use mathlib.Core.Bool.{Bool};
+ghost use lib.ListN.{length, getD};
+ghost use Rattle.interface.specs.Grounds.{first-fault};
+ghost use Rattle.wire.specs.Bytes.{unhex};
+ghost use Rattle.wire.specs.Kinds.{find-kind, size-of, misplaced, frame-grounds};
+use interface::fault::FrameFault;
+use super::bytes::byte_at;
+use super::frame::FrameKind;
+
+fn find_kind(kinds: &[FrameKind], code: u8) -> Option<FrameKind>
+    ensures { λ r. ⌜ r ≡ find-kind (now (kinds .entry)) code ⌝ }
+{
+    for kind in kinds {
+        if kind.code == code {
+            return Some(*kind);
+        }
+    }
+    None
+}
+
+fn byte_count(digits: &[u8]) -> usize
+    ensures { λ r. ⌜ r ≡ length (unhex (now (digits .entry))) ⌝ }
+{
+    digits.len() / 2
+}
+
+fn kind_size(kind: FrameKind, digits: &[u8]) -> usize
+    ensures { λ r. ⌜ r ≡ size-of kind (unhex (now (digits .entry))) ⌝ }
+{
+    kind.base as usize + kind.each as usize * byte_at(digits, 1) as usize
+}
+
+fn is_misplaced(first: bool, code: u8) -> bool
+    ensures { λ r. ⌜ r ≡ misplaced first code ⌝ }
+{
+    if first { code != 1 } else { code == 1 }
+}
+
+// Refused if its first byte is the code of none of the known kinds, if it is the first frame and no home or a later
+// one and a home, or if it has another length than its kind asks for, in this order.
+pub fn check_frame(digits: &[u8], first: bool, kinds: &[FrameKind]) -> Result<(), FrameFault>
+    ensures { λ r. ⌜ r ≡ first-fault (frame-grounds (now (kinds .entry)) first (unhex (now (digits .entry)))) ⌝ }
+{
+    let code = byte_at(digits, 0);
+    let Some(kind) = find_kind(kinds, code) else {
+        return Err(FrameFault::Kind(1));
+    };
+    if is_misplaced(first, code) {
+        return Err(FrameFault::Order(1));
+    }
+    if byte_count(digits) != kind_size(kind, digits) {
+        return Err(FrameFault::Length(1));
+    }
+    Ok(())
+}
