@@ -11,7 +11,7 @@ use mir.Val.{SFits, toZ, ofZ, bytes, bits}
 use native.Mathlib.Omega.{arith}
 use Rattle.std.specs.shelf.Lists.{All}
 use Rattle.std.proofs.shelf.Elements.{all-getD, all-append}
-use Rattle.std.proofs.shelf.Lists.{drop-more, drop-all, getD-at, append-assoc, append-nil, length-push, length-append, getD-past}
+use Rattle.std.proofs.shelf.Lists.{ext-getD, drop-more, drop-all, getD-at, append-assoc, append-nil, length-push, length-append, getD-past}
 use Rattle.std.proofs.shelf.Signed.{toZ-ofZ, ofZ-toZ}
 use Rattle.std.specs.declared.result.Result.{Result}
 use Rattle.std.specs.declared.result.Result.the-variants.{Ok}
@@ -32,7 +32,7 @@ pub length-part : (w i : ℕ) (bs : List ℕ) → length (part w i bs) ≡ w
 length-part zero i bs = refl
 length-part (suc w) i bs = ap suc (length-part w (i + 1) bs)
 
-byte-small : (bs : List ℕ) (i : ℕ) → All (λ b. b < 256) bs → getD bs i 0 < 256
+pub byte-small : (bs : List ℕ) (i : ℕ) → All (λ b. b < 256) bs → getD bs i 0 < 256
 byte-small [] i a = omega arith
 byte-small (b ∷ bs) zero a = a .0
 byte-small (b ∷ bs) (suc i) a = byte-small bs i (a .1)
@@ -40,6 +40,14 @@ byte-small (b ∷ bs) (suc i) a = byte-small bs i (a .1)
 pub small-part : (w i : ℕ) (bs : List ℕ) → All (λ b. b < 256) bs → All (λ b. b < 256) (part w i bs)
 small-part zero i bs a = tt
 small-part (suc w) i bs a = (byte-small bs i a, small-part w (i + 1) bs a)
+
+pub getD-part : (w i : ℕ) (bs : List ℕ) (r : ℕ) → r < w → getD (part w i bs) r 0 ≡ getD bs (i + r) 0
+getD-part zero i bs r h = absurd (omega arith)
+getD-part (suc w) i bs zero h = ap (λ k. getD bs k 0) (omega arith)
+getD-part (suc w) i bs (suc r) h = getD-part w (i + 1) bs r (omega arith) ∙ ap (λ k. getD bs k 0) (omega arith)
+
+pub part-is : (w i : ℕ) (bs q : List ℕ) → length q ≡ w → ((r : ℕ) → r < w → getD bs (i + r) 0 ≡ getD q r 0) → part w i bs ≡ q
+part-is w i bs q long same = ext-getD 0 (part w i bs) q (length-part w i bs ∙ sym long) (λ r h. getD-part w i bs r (omega (arith, length-part w i bs)) ∙ same r (omega (arith, length-part w i bs)))
 
 -- a part and what follows it
 part-drop : (w i : ℕ) (bs : List ℕ) → i + w ≤ length bs → part w i bs ++ drop (i + w) bs ≡ drop i bs
@@ -105,7 +113,7 @@ small-fields (f ∷ fs) [] fit = absurd fit
 small-fields (f ∷ fs) (z ∷ zs) fit = all-append (λ b. b < 256) (write-field f z) (write-fields fs zs) (small-be (bytes (f .width)) (field-bits f z) (fit .0 .0)) (small-fields fs zs (fit .1))
 
 -- a field is written as it was read
-write-one : (f : Field) (bs : List ℕ) → All (λ b. b < 256) bs → write-field f (read-field f bs) ≡ part (bytes (f .width)) (f .offset) bs
+pub write-one : (f : Field) (bs : List ℕ) → All (λ b. b < 256) bs → write-field f (read-field f bs) ≡ part (bytes (f .width)) (f .offset) bs
 write-one f bs a =
     let q = part (bytes (f .width)) (f .offset) bs in
     let long : length q ≡ bytes (f .width) = length-part (bytes (f .width)) (f .offset) bs in
@@ -134,12 +142,12 @@ module _ {R : Type 0} (C : Codec R) (L : CodecLaws C) where
     };
     read-written = back;
     written-read = λ n low high bs a.
-      let long : length bs ≡ 1 + widths (C .table) = omega (arith, a .sized) in
-      let rest = ap (write-fields (C .table)) (L .fields-from bs) ∙ write-all (C .table) 1 bs (a .small) (L .laid) long in
-      let all : bs ≡ getD bs 0 0 ∷ drop 1 bs = drop-more bs 0 0 (omega arith) in
-      let code = sym (a .coded) in
-      let both : C .code ∷ write-fields (C .table) (C .fields (C .from (read-fields (C .table) bs))) ≡ getD bs 0 0 ∷ drop 1 bs = λ i. code i ∷ rest i in
-      both ∙ sym all;
+        let long : length bs ≡ 1 + widths (C .table) = omega (arith, a .sized) in
+        let rest = ap (write-fields (C .table)) (L .fields-from bs) ∙ write-all (C .table) 1 bs (a .small) (L .laid) long in
+        let all : bs ≡ getD bs 0 0 ∷ drop 1 bs = drop-more bs 0 0 (omega arith) in
+        let code = sym (a .coded) in
+        let both : C .code ∷ write-fields (C .table) (C .fields (C .from (read-fields (C .table) bs))) ≡ getD bs 0 0 ∷ drop 1 bs = λ i. code i ∷ rest i in
+        both ∙ sym all;
   }
 
 -- a byte without a sign, and a number that its signed width holds, fit their fields

@@ -4,3 +4,5 @@ pub mod Frames
 pub mod HomeFrame
 pub mod Kinds
 pub mod Output
+pub mod Readers
+pub mod Text

@@ -76,7 +76,12 @@ pub fn i32_at(digits: &[u8], i: u16) -> i32
     let second = first + 1;
     let third = second + 1;
     let fourth = third + 1;
-    u32_of(byte_at(digits, first), byte_at(digits, second), byte_at(digits, third), byte_at(digits, fourth)).cast_signed()
+    u32_of(
+        byte_at(digits, first),
+        byte_at(digits, second),
+        byte_at(digits, third),
+        byte_at(digits, fourth),
+    ).cast_signed()
 }
 
 // The four bytes of a number, the highest first.
@@ -85,7 +90,12 @@ fn u32_bytes(x: u32) -> [u8; 4]
 {
     let rest = x % 16_777_216;
     let low = rest % 65_536;
-    [(x / 16_777_216) as u8, (rest / 65_536) as u8, (low / 256) as u8, (low % 256) as u8]
+    [
+        (x / 16_777_216) as u8,
+        (rest / 65_536) as u8,
+        (low / 256) as u8,
+        (low % 256) as u8,
+    ]
 }
 
 // The four bytes of a signed number, by two's complement, the highest first.

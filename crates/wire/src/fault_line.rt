@@ -2,9 +2,9 @@
 ghost use mathlib.Core.Path.{_≡_};
 ghost use Rattle.wire.specs.FaultLine.{fault-line, fault-frame};
 ghost use Rattle.wire.specs.Output.{line-put, line-end};
-use interface::fault::SolverFault;
 use super::bytes::u16_bytes;
 use super::output::put_line;
+use interface::fault::SolverFault;
 
 // A fault of the whole text names no line.
 fn line_of(fault: SolverFault, line: u16) -> u16
@@ -19,7 +19,15 @@ fn fault_bytes(fault: SolverFault, line: u16) -> [u8; 7]
     let code = fault.code();
     let line = u16_bytes(line_of(fault, line));
     let place = u16_bytes(code.place);
-    [0x1E, code.number, code.layer, line[0], line[1], place[0], place[1]]
+    [
+        0x1E,
+        code.number,
+        code.layer,
+        line[0],
+        line[1],
+        place[0],
+        place[1],
+    ]
 }
 
 // Appends the fault's line and answers the place after it; where it has no room, nothing is written.

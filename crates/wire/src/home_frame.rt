@@ -5,13 +5,13 @@ ghost use Prim.Native.Nat.{_+_, _*_, _<_, min};
 ghost use Rattle.std.specs.Iters.{counting};
 ghost use Rattle.wire.specs.Bytes.{unhex};
 ghost use Rattle.wire.specs.HomeFrame.{word-at, word-byte, range-byte, home-byte, first-or-0, eight, home-frame};
-use interface::home::Home;
 use super::bytes::byte_at;
 use super::bytes::i32_at;
 use super::bytes::i32_bytes;
 use super::frame::Frame;
 use super::frame::FrameKind;
 use super::output::put_line;
+use interface::home::Home;
 
 // The number from byte `from + 8k` on, 0 past the first n.
 fn word(digits: &[u8], n: u8, from: u16, k: u8) -> i32

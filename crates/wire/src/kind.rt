@@ -5,9 +5,9 @@ ghost use lib.ListN.{length, getD};
 ghost use Rattle.interface.specs.Grounds.{first-fault};
 ghost use Rattle.wire.specs.Bytes.{unhex};
 ghost use Rattle.wire.specs.Kinds.{find-kind, size-of, misplaced, frame-grounds};
-use interface::fault::FrameFault;
 use super::bytes::byte_at;
 use super::frame::FrameKind;
+use interface::fault::FrameFault;
 
 fn find_kind(kinds: &[FrameKind], code: u8) -> Option<FrameKind>
     ensures { λ r. ⌜ r ≡ find-kind (now (kinds .entry)) code ⌝ }

@@ -5,3 +5,5 @@ pub mod frame;
 pub mod home_frame;
 pub mod kind;
 pub mod output;
+pub mod reader;
+pub mod text;

@@ -10,7 +10,11 @@ fn hex_digit(value: u8) -> u8
     requires { ⌜ value < 16 ⌝ }
     ensures { λ r. ⌜ r ≡ digit-of value ⌝ }
 {
-    if value < 10 { b'0' + value } else { b'A' - 10 + value }
+    if value < 10 {
+        b'0' + value
+    } else {
+        b'A' - 10 + value
+    }
 }
 
 // Two digits from place i on.
