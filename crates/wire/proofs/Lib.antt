@@ -5,4 +5,5 @@ pub mod HomeTrips
 pub mod Lines
 pub mod Lookup
 pub mod Passing
+pub mod ReadBack
 pub mod Written

@@ -21,6 +21,7 @@ use Rattle.interface.specs.declared.fault.TextFault.the-variants.{Size, Byte, L
 use Rattle.interface.specs.Grounds.{first-fault}
 use Rattle.wire.specs.declared.reader.Reader.{Reader}
 use Rattle.wire.specs.Bytes.{is-digit}
+use Rattle.wire.proofs.Hex.{hex-unhex}
 use Rattle.wire.specs.Readers.{left-of, advanced}
 use Rattle.wire.specs.Text.{place, line-length, first-line, has-feed, line-check, line-answer, next-line, used, count-up, next-number, Line-says, All-digits, First-wrong}
 
@@ -86,7 +87,7 @@ module _ (line : List ℕ) (ended : Bool) where
       (λ a b. (refl, all-digits a, ltb-true 132 n b))
       (λ a b c. (place-small n (short b), all-digits a, short b, odd c))
       (λ a b c d. (place-small n (short b), all-digits a, even c .0, short b, even c .1, not-true ended d))
-      (λ a b c d. (all-digits a, even c .0, short b, even c .1, not-false ended d))
+      (λ a b c d. (all-digits a, even c .0, short b, even c .1, not-false ended d, hex-unhex line (all-digits a) (even c .1)))
 
 -- the line that starts at pos and ends at end, and what its check answers
 module _ (r : Reader) where

@@ -1,12 +1,15 @@
 -- Lines appended to a lent output, the rest as before. Assumes nothing.
-use Prim.Native.Nat.{ℕ, _+_, _*_}
+use Prim.Native.Nat.{ℕ, _+_, _*_, _<_, _≤_}
 use mathlib.Core.Bool.{Bool, cond}
 use mathlib.Core.List.{List, [], _∷_, _++_}
+use mathlib.Core.Path.{_≡_}
 use lib.Dec.{ltb}
 use lib.ListN.{length, take, drop}
 use Rattle.std.specs.declared.option.Option.{Option}
 use Rattle.std.specs.declared.option.Option.the-variants.{Some, None}
-use Rattle.wire.specs.Bytes.{hex}
+use Rattle.std.specs.declared.result.Result.the-variants.{Ok}
+use Rattle.wire.specs.Bytes.{hex, unhex}
+use Rattle.wire.specs.Text.{next-line}
 
 -- d with s from place i on, every other place as before
 unfoldable pub written : List ℕ → ℕ → List ℕ → List ℕ
@@ -27,3 +30,7 @@ line-put d i bs = cond (line-fits d i bs) (written d i (line-of bs)) d
 -- the place after the line, none where it had no room
 abbrev pub line-end : List ℕ → ℕ → List ℕ → Option ℕ
 line-end d i bs = cond (line-fits d i bs) (Some (i + 2 * length bs + 1)) None
+
+-- what is appended reads back: the line of a frame is accepted, whatever follows it, and its digits give the frame's bytes
+abbrev pub Reads-back : List ℕ → Type 0
+Reads-back bs = 0 < length bs → length bs ≤ 66 → (left : List ℕ) → (next-line (line-of bs ++ left) ≡ Ok (Some (hex bs))) × (unhex (hex bs) ≡ bs)

@@ -16,7 +16,7 @@ abbrev pub left-of : Reader → List ℕ
 left-of r = drop (r .pos) (r .text .now)
 
 -- an answer by what its part of the text holds
-abbrev pub seen : Result (Option (RefT (List ℕ))) TextFault → Result (Option (List ℕ)) TextFault
+abbrev pub seen : {F : Type 0} → Result (Option (RefT (List ℕ))) F → Result (Option (List ℕ)) F
 seen (Ok None) = Ok None
 seen (Ok (Some line)) = Ok (Some (line .now))
 seen (Err f) = Err f

@@ -13,7 +13,7 @@ use Rattle.std.specs.declared.result.Result.the-variants.{Ok, Err}
 use Rattle.interface.specs.declared.fault.TextFault.{TextFault}
 use Rattle.interface.specs.declared.fault.TextFault.the-variants.{Size, Byte, Long, Digits, Unended}
 use Rattle.interface.specs.Grounds.{first-fault}
-use Rattle.wire.specs.Bytes.{is-digit}
+use Rattle.wire.specs.Bytes.{is-digit, hex, unhex}
 
 -- a text has 1 to 8,192 bytes
 abbrev pub size-grounds : List ℕ → List (Bool × TextFault)
@@ -50,20 +50,21 @@ All-digits line = (i : ℕ) → i < length line → is-digit (getD line i 0) ≡
 abbrev pub First-wrong : List ℕ → ℕ → Type 0
 First-wrong line k = (k < length line) × (is-digit (getD line k 0) ≡ false) × ((i : ℕ) → i < k → is-digit (getD line i 0) ≡ true)
 
--- what each answer says of the line: the place is wrong, and nothing before it is
+-- what each answer says of the line: an accepted one is the digits of its bytes; else the place is wrong, and nothing before it is
 abbrev pub Line-says : List ℕ → Bool → Result (Unit {0}) TextFault → Type 0
-Line-says line ended (Ok u) = All-digits line × (0 < length line) × (length line ≤ 132) × (length line % 2 ≡ 0) × (ended ≡ true)
+Line-says line ended (Ok u) = All-digits line × (0 < length line) × (length line ≤ 132) × (length line % 2 ≡ 0) × (ended ≡ true) × (hex (unhex line) ≡ line)
 Line-says line ended (Err Size) = ⊥
 Line-says line ended (Err (Byte p)) = (k : ℕ) × (p ≡ place k) × First-wrong line k
 Line-says line ended (Err (Long p)) = (p ≡ 133) × All-digits line × (133 ≤ length line)
 Line-says line ended (Err (Digits p)) = (p ≡ length line + 1) × All-digits line × (length line ≤ 132) × (0 < length line → length line % 2 ≡ 1)
 Line-says line ended (Err (Unended p)) = (p ≡ length line + 1) × All-digits line × (0 < length line) × (length line ≤ 132) × (length line % 2 ≡ 0) × (ended ≡ false)
 
--- what the next line is to the bytes that are left: none where none are left, a fault, or the line's digits
-abbrev pub line-answer : Result (Unit {0}) TextFault → List ℕ → Result (Option (List ℕ)) TextFault
+-- a line that its check accepts, or the check's fault
+abbrev pub line-answer : {F : Type 0} → Result (Unit {0}) F → List ℕ → Result (Option (List ℕ)) F
 line-answer (Ok u) line = Ok (Some line)
 line-answer (Err f) line = Err f
 
+-- what the next line is to the bytes that are left: none where none are left, a fault, or the line's digits
 abbrev pub next-line : List ℕ → Result (Option (List ℕ)) TextFault
 next-line left = cond (ltb 0 (length left)) (line-answer (line-check (first-line left) (has-feed left)) (first-line left)) (Ok None)
 

@@ -4,10 +4,14 @@ ghost use mathlib.Core.Bool.{Bool};
 ghost use lib.ListN.{length, getD};
 ghost use Rattle.interface.specs.Grounds.{first-fault};
 ghost use Rattle.wire.specs.Bytes.{unhex};
-ghost use Rattle.wire.specs.Kinds.{find-kind, size-of, misplaced, frame-grounds};
+ghost use Rattle.wire.specs.Kinds.{find-kind, size-of, misplaced, frame-grounds, next-frame};
+ghost use Rattle.wire.specs.Readers.{left-of, seen, advanced};
+ghost use Rattle.wire.specs.Text.{next-line};
 use super::bytes::byte_at;
 use super::frame::FrameKind;
+use super::reader::Reader;
 use interface::fault::FrameFault;
+use interface::fault::TextInFrame;
 
 fn find_kind(kinds: &[FrameKind], code: u8) -> Option<FrameKind>
     ensures { λ r. ⌜ r ≡ find-kind (now (kinds .entry)) code ⌝ }
@@ -54,4 +58,18 @@ pub fn check_frame(digits: &[u8], first: bool, kinds: &[FrameKind]) -> Result<()
         return Err(FrameFault::Length(1));
     }
     Ok(())
+}
+
+// The next line of a text as a frame: its digits, or nothing where no byte is left. The reader has
+// passed a line that the text's grounds accept, whatever the frame's grounds say.
+pub fn next_frame<'a>(reader: &mut Reader<'a>, first: bool, kinds: &[FrameKind]) -> Result<Option<&'a [u8]>, FrameFault>
+    ensures value { λ r. ⌜ seen r ≡ next-frame (now (kinds .entry)) first (next-line (left-of (now (reader .entry)))) ⌝ }
+    ensures after { λ _. ⌜ now (reader .exit) ≡ advanced (now (reader .entry)) ⌝ }
+{
+    let next = reader.next_line()?;
+    let Some(line) = next else {
+        return Ok(None);
+    };
+    check_frame(line, first, kinds)?;
+    Ok(Some(line))
 }

@@ -4,7 +4,7 @@ ghost use Prim.Native.Nat.{_+_, _*_, _/_, _%_, _<_, _≤_};
 ghost use lib.Dec.{ltb};
 ghost use lib.ListN.{length, set};
 ghost use Rattle.wire.specs.Bytes.{digit-of, hex};
-ghost use Rattle.wire.specs.Output.{written, line-of, line-put, line-end};
+ghost use Rattle.wire.specs.Output.{written, line-of, line-put, line-end, Reads-back};
 
 fn hex_digit(value: u8) -> u8
     requires { ⌜ value < 16 ⌝ }
@@ -58,8 +58,7 @@ fn put_whole(out: &mut [u8], at: usize, bytes: &[u8])
     put_feed(out, at + 2 * bytes.len());
 }
 
-// Appends a frame as a line, and answers the place after it; where the whole line has no room, nothing is written.
-pub fn put_line(out: &mut [u8], at: usize, bytes: &[u8]) -> Option<usize>
+fn append_line(out: &mut [u8], at: usize, bytes: &[u8]) -> Option<usize>
     ensures value { λ r. ⌜ r ≡ line-end (now (out .entry)) at (now (bytes .entry)) ⌝ }
     ensures after { λ _. ⌜ now (out .exit) ≡ line-put (now (out .entry)) at (now (bytes .entry)) ⌝ }
 {
@@ -68,4 +67,14 @@ pub fn put_line(out: &mut [u8], at: usize, bytes: &[u8]) -> Option<usize>
     }
     put_whole(out, at, bytes);
     Some(at + 2 * bytes.len() + 1)
+}
+
+// Appends a frame as a line, and answers the place after it; where the whole line has no room, nothing is written.
+// The line reads back.
+pub fn put_line(out: &mut [u8], at: usize, bytes: &[u8]) -> Option<usize>
+    ensures value { λ r. ⌜ r ≡ line-end (now (out .entry)) at (now (bytes .entry)) ⌝ }
+    ensures after { λ _. ⌜ now (out .exit) ≡ line-put (now (out .entry)) at (now (bytes .entry)) ⌝ }
+    ensures reads { λ _. ⌜ Reads-back (now (bytes .entry)) ⌝ }
+{
+    append_line(out, at, bytes)
 }
