@@ -62,7 +62,11 @@ pub fn check_frame(digits: &[u8], first: bool, kinds: &[FrameKind]) -> Result<()
 
 // The next line of a text as a frame: its digits, or nothing where no byte is left. The reader has
 // passed a line that the text's grounds accept, whatever the frame's grounds say.
-pub fn next_frame<'a>(reader: &mut Reader<'a>, first: bool, kinds: &[FrameKind]) -> Result<Option<&'a [u8]>, FrameFault>
+pub fn next_frame<'a>(
+    reader: &mut Reader<'a>,
+    first: bool,
+    kinds: &[FrameKind],
+) -> Result<Option<&'a [u8]>, FrameFault>
     ensures value { λ r. ⌜ seen r ≡ next-frame (now (kinds .entry)) first (next-line (left-of (now (reader .entry)))) ⌝ }
     ensures after { λ _. ⌜ now (reader .exit) ≡ advanced (now (reader .entry)) ⌝ }
 {

@@ -7,12 +7,12 @@ ghost use Rattle.wire.specs.Text.{line-length, next-line, count-up};
 use super::text::check_line;
 use interface::fault::TextFault;
 
-// `pos` bytes are used up, in `line` lines.
+// `pos` bytes are used up; `line` is the number of the line that was looked at last, counted from 1.
 #[derive(Drop)]
 pub struct Reader<'a> {
     text: &'a [u8],
     pos: usize,
-    line: u16,
+    pub line: u16,
 }
 
 // Where the line that starts at `pos` ends: at its line feed or at the text's end.
@@ -45,13 +45,6 @@ impl<'a> Reader<'a> {
             pos: 0,
             line: 0,
         }
-    }
-
-    // The number of the line that was looked at last, counted from 1; 0 in front of the first.
-    pub fn line(&self) -> u16
-        ensures { λ r. ⌜ r ≡ now (self .entry) .line ⌝ }
-    {
-        self.line
     }
 
     // The next line's digits, without the line feed; nothing where no byte is left. A line that is refused is counted
