@@ -1,0 +1,3 @@
+pub mod AnyRules
+pub mod Problems
+pub mod Reading

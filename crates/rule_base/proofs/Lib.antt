@@ -1,0 +1,5 @@
+pub mod CutsMet
+pub mod Guards
+pub mod Integers
+pub mod Ranges
+pub mod Values

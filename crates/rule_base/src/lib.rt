@@ -1,0 +1,3 @@
+// What the rules share: bounds as cuts, and the guard around each rule's core.
+pub mod bounds;
+pub mod guard;

@@ -1,0 +1,4 @@
+pub mod Aparts
+pub mod Joins
+pub mod Pairs
+pub mod Steps

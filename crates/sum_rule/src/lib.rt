@@ -1,0 +1,2 @@
+// The sum rule, apart from the others since it takes longest to prove.
+pub mod sum;
