@@ -24,7 +24,7 @@ use Rattle.wire.specs.HomeFrame.{read-home}
 use Rattle.wire.specs.Kinds.{next-frame}
 use Rattle.wire.specs.Text.{next-line, used, next-number, size-grounds}
 use Rattle.problem.specs.declared.problem.Refusal.{Refusal}
-use Rattle.problem.specs.AnyRules.{AnyRule, any-model, rule-of, kinds}
+use Rattle.problem.specs.AnyRules.{AnyRule, any-model, rule-of, known-kinds}
 
 -- on with what a lower layer gives, or its fault, raised
 abbrev pub after : {A B E F : Type 0} → Result A E → (E → F) → (A → Result B F) → Result B F
@@ -43,13 +43,13 @@ abbrev pub homed : List ℕ → Result (Option Home) RecordFault
 homed line = after (home-check (read-home (unhex line))) same (λ u. Ok (Some (read-home (unhex line))))
 
 abbrev pub home-line : List ℕ → Result (Option Home) RecordFault
-home-line left = after (next-frame kinds true (next-line left)) Frame (λ o. if-any o homed)
+home-line left = after (next-frame known-kinds true (next-line left)) Frame (λ o. if-any o homed)
 
 abbrev pub ruled : ℕ → List ℕ → Result (Option AnyRule) RecordFault
 ruled n line = after (any-model .check n (rule-of (unhex line))) same (λ u. Ok (Some (rule-of (unhex line))))
 
 abbrev pub rule-line : ℕ → List ℕ → Result (Option AnyRule) RecordFault
-rule-line n left = after (next-frame kinds false (next-line left)) Frame (λ o. if-any o (ruled n))
+rule-line n left = after (next-frame known-kinds false (next-line left)) Frame (λ o. if-any o (ruled n))
 
 -- a solver has place for 32 rules
 abbrev pub placed : ℕ → AnyRule → Result (Option AnyRule) SolverFault

@@ -6,7 +6,7 @@ ghost use mathlib.Core.List.{[]};
 ghost use Rattle.wire.specs.Readers.{left-of};
 ghost use Rattle.problem.specs.Problems.{rules-in, seen-by, rules-seen};
 ghost use Rattle.problem.specs.Reading.{rules-from, with-rules, read-text, refusal};
-use super::any_rule::AnyRule;
+use rules::any::AnyRule;
 use super::any_rule::no_rule;
 use super::reading::first_home;
 use super::reading::size_of;
