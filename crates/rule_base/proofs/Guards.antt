@@ -10,7 +10,7 @@ use Rattle.std.specs.Options.{isSome}
 use Rattle.std.specs.Results.{isOk}
 use Rattle.std.specs.declared.option.Option.{Option}
 use Rattle.std.specs.declared.option.Option.the-variants.{Some, None}
-use Rattle.std.specs.declared.result.Result.the-variants.{Err}
+use Rattle.std.specs.declared.result.Result.the-variants.{Ok, Err}
 use Rattle.std.proofs.shelf.Tests.{and-left, and-parts, cond-false, false≢true}
 use Rattle.interface.specs.declared.cut.Cut.{Cut}
 use Rattle.interface.specs.declared.fault.RecordFault.{RecordFault}
@@ -35,6 +35,9 @@ clear (g ∷ gs) e = by (g .0) (clear gs) e
     by : (b : Bool) → (isOk (first-fault gs) ≡ true → Clear gs) → isOk (first-fault ((b, g .1) ∷ gs)) ≡ true → (b ≡ false) × Clear gs
     by true more h = absurd (false≢true h)
     by false more h = (refl, more h)
+
+pub clear-ok : (gs : List (Bool × RecordFault)) → first-fault gs ≡ Ok tt → Clear gs
+clear-ok gs e = clear gs (ap isOk e)
 
 -- what the core of a rule has to show, of a record that passes its check
 pub record CoreLaws {R : Type 0} (K : Core R) : Type 0 where

@@ -1,5 +1,5 @@
 -- The apart rule keeps its laws: the difference lies from the least to the greatest gap. Assumes nothing.
-use Prim.Native.Nat.{ℕ, _+_, _*_, _<_}
+use Prim.Native.Nat.{ℕ, _+_, _*_, _<_, _≤_}
 use mathlib.Core.Bool.{Bool, true, false, cond}
 use mathlib.Core.List.{List}
 use mathlib.Core.Path.{_≡_, refl}
@@ -10,18 +10,22 @@ use lib.IntN.{ℤ, pos, negℤ, _-ℤ_}
 use lib.ListN.{getD}
 use lib.Signed.{_≤ℤ_, ltZ}
 use Rattle.std.specs.declared.option.Option.the-variants.{Some, None}
+use Rattle.std.specs.declared.result.Result.the-variants.{Ok}
 use Rattle.std.proofs.shelf.Tests.{leb-false}
 use Rattle.interface.specs.declared.cut.Cut.{Cut}
 use Rattle.interface.specs.declared.reading.Reading.{Reading}
 use Rattle.interface.specs.Cuts.{Meets}
 use Rattle.interface.specs.Readings.{Within, Sums-of}
 use Rattle.interface.specs.Rules.{RuleLaws}
+use Rattle.wire.specs.Frames.{FrameLaws, by-table, Fit-all}
+use Rattle.wire.proofs.Codecs.{by-table-laws}
 use Rattle.rules.specs.declared.apart.ApartRule.{ApartRule}
-use Rattle.rules.specs.Aparts.{apart-core, apart-grounds, apart-meets, apart-cut, least-gap, greatest-gap, far, all-near, all-far}
+use Rattle.rules.specs.Aparts.{apart-codec, apart-core, apart-grounds, apart-meets, apart-cut, least-gap, greatest-gap, far, all-near, all-far}
 use Rattle.rule_base.specs.Bounds.{cut-at}
 use Rattle.rule_base.specs.Guards.{guarded}
 use Rattle.rule_base.proofs.CutsMet.{cut-met}
-use Rattle.rule_base.proofs.Guards.{Clear, CoreLaws, guarded-laws}
+use Rattle.rule_base.proofs.Fits.{byte-fits, word-fits}
+use Rattle.rule_base.proofs.Guards.{Clear, clear-ok, CoreLaws, guarded-laws}
 use Rattle.rule_base.proofs.Values.{value-even, value-odd}
 
 near-not-far : (d low high z : ℤ) → low ≤ℤ z → z ≤ℤ high → all-near d low high ≡ true → far d z ≡ false
@@ -91,3 +95,20 @@ apart-core-laws = record {
 
 pub apart-laws : RuleLaws (guarded apart-core)
 apart-laws = guarded-laws apart-core apart-core-laws
+
+fit : (n : ℕ) → 0 < n → n ≤ 8 → (r : ApartRule) → apart-codec .check n r ≡ Ok tt → Fit-all (apart-codec .table) (apart-codec .fields r)
+fit n some few r ok =
+    let h = clear-ok (apart-grounds n r) ok in
+    let a : r .a < n = leb-false _ _ (h .0) in
+    let b : r .b < n = leb-false _ _ (h .1 .0) in
+    let d = h .1 .1 .1 .0 in
+    (byte-fits 1 (r .a) (omega arith), (byte-fits 2 (r .b) (omega arith), (word-fits 3 (r .d) (grind (arith, ints)) (grind (arith, ints)), tt)))
+
+pub apart-trips : FrameLaws (by-table apart-codec)
+apart-trips = by-table-laws apart-codec (record {
+  code-small = omega arith;
+  laid = (refl, (refl, (refl, tt)));
+  from-fields = λ r. refl;
+  fields-from = λ bs. refl;
+  fit = fit;
+})

@@ -1,14 +1,15 @@
 -- The pair rule keeps its laws: the limits bound the sum from above, those of the opposite nodes from below. Assumes nothing.
-use Prim.Native.Nat.{ℕ, _*_, _<_}
+use Prim.Native.Nat.{ℕ, _*_, _<_, _≤_}
 use mathlib.Core.Bool.{Bool, true, false}
 use mathlib.Core.List.{List}
-use mathlib.Core.Path.{_≡_, ap, sym, _∙_}
+use mathlib.Core.Path.{_≡_, refl}
 use native.Mathlib.Omega.{arith}
 use borrow.Author.Differences.{ints}
 use lib.Dec.{eqb}
 use lib.IntN.{ℤ, pos, negℤ, _+ℤ_}
 use lib.Signed.{_≤ℤ_, leZ}
 use Rattle.std.specs.declared.option.Option.the-variants.{Some, None}
+use Rattle.std.specs.declared.result.Result.the-variants.{Ok}
 use Rattle.std.proofs.shelf.Tests.{leb-false}
 use Rattle.interface.specs.declared.cut.Cut.{Cut}
 use Rattle.interface.specs.declared.reading.Reading.{Reading}
@@ -16,11 +17,14 @@ use Rattle.interface.specs.Cuts.{Meets}
 use Rattle.interface.specs.Nodes.{opp, value}
 use Rattle.interface.specs.Readings.{limit-at, Within, Sums-of}
 use Rattle.interface.specs.Rules.{RuleLaws}
+use Rattle.wire.specs.Frames.{FrameLaws, by-table, Fit-all}
+use Rattle.wire.proofs.Codecs.{by-table-laws}
 use Rattle.rules.specs.declared.pair.PairRule.{PairRule}
 use Rattle.rule_base.specs.Guards.{guarded}
-use Rattle.rules.specs.Pairs.{pair-core, pair-grounds, pair-none, pair-all, pair-meets, pair-cut}
+use Rattle.rules.specs.Pairs.{pair-codec, pair-core, pair-grounds, pair-none, pair-all, pair-meets, pair-cut}
 use Rattle.rule_base.proofs.CutsMet.{cut-met}
-use Rattle.rule_base.proofs.Guards.{Clear, CoreLaws, guarded-laws}
+use Rattle.rule_base.proofs.Fits.{byte-fits, word-fits}
+use Rattle.rule_base.proofs.Guards.{Clear, clear-ok, CoreLaws, guarded-laws}
 use Rattle.rule_base.proofs.Values.{value-opp, opp-below}
 
 none-meets : (r : PairRule) (g : Reading) → Clear (pair-grounds (g .n) r) → pair-none r g ≡ true → (x : List ℤ) → Within g x → pair-meets r x ≡ false
@@ -61,3 +65,20 @@ pair-core-laws = record {
 
 pub pair-laws : RuleLaws (guarded pair-core)
 pair-laws = guarded-laws pair-core pair-core-laws
+
+fit : (n : ℕ) → 0 < n → n ≤ 8 → (r : PairRule) → pair-codec .check n r ≡ Ok tt → Fit-all (pair-codec .table) (pair-codec .fields r)
+fit n some few r ok =
+    let h = clear-ok (pair-grounds n r) ok in
+    let p : r .p < 2 * n = leb-false _ _ (h .0) in
+    let q : r .q < 2 * n = leb-false _ _ (h .1 .0) in
+    let c = h .1 .1 .1 .0 in
+    (byte-fits 1 (r .p) (omega arith), (byte-fits 2 (r .q) (omega arith), (word-fits 3 (r .c) (grind (arith, ints)) (grind (arith, ints)), tt)))
+
+pub pair-trips : FrameLaws (by-table pair-codec)
+pair-trips = by-table-laws pair-codec (record {
+  code-small = omega arith;
+  laid = (refl, (refl, (refl, tt)));
+  from-fields = λ r. refl;
+  fields-from = λ bs. refl;
+  fit = fit;
+})

@@ -1,5 +1,5 @@
 -- The step rule keeps its laws: the values that leave r lie m apart. Assumes nothing.
-use Prim.Native.Nat.{ℕ, _+_, _*_, _<_}
+use Prim.Native.Nat.{ℕ, _+_, _*_, _<_, _≤_}
 use mathlib.Core.Bool.{Bool, true, false, cond}
 use mathlib.Core.List.{List}
 use mathlib.Core.Path.{_≡_, refl, ap, ap₂, sym, _∙_}
@@ -11,6 +11,7 @@ use lib.ListN.{getD}
 use lib.Signed.{_≤ℤ_, _<ℤ_, ltZ}
 use Rattle.std.specs.Numbers.{divEuclid, remEuclid}
 use Rattle.std.specs.declared.option.Option.the-variants.{Some, None}
+use Rattle.std.specs.declared.result.Result.the-variants.{Ok}
 use Rattle.std.proofs.shelf.Tests.{leb-false, lt-ltb, cond-true, both-ways, and-parts}
 use Rattle.interface.specs.declared.cut.Cut.{Cut}
 use Rattle.interface.specs.declared.reading.Reading.{Reading}
@@ -18,12 +19,15 @@ use Rattle.interface.specs.Cuts.{Meets}
 use Rattle.interface.specs.Nodes.{value}
 use Rattle.interface.specs.Readings.{Within, Sums-of}
 use Rattle.interface.specs.Rules.{RuleLaws}
+use Rattle.wire.specs.Frames.{FrameLaws, by-table, Fit-all}
+use Rattle.wire.proofs.Codecs.{by-table-laws}
 use Rattle.rules.specs.declared.step.StepRule.{StepRule}
 use Rattle.rule_base.specs.Bounds.{equal, bounded, low-in, high-in}
 use Rattle.rule_base.specs.Guards.{guarded}
-use Rattle.rules.specs.Steps.{rest, step-core, step-grounds, step-meets, step-cut, leaves, last-up-to, first-from, Divides, Last-up-to, First-from, none-leaves, one-leaves}
+use Rattle.rules.specs.Steps.{rest, step-codec, step-core, step-grounds, step-meets, step-cut, leaves, last-up-to, first-from, Divides, Last-up-to, First-from, none-leaves, one-leaves}
 use Rattle.rule_base.proofs.CutsMet.{bound-met}
-use Rattle.rule_base.proofs.Guards.{Clear, CoreLaws, guarded-laws}
+use Rattle.rule_base.proofs.Fits.{byte-fits, word-fits}
+use Rattle.rule_base.proofs.Guards.{Clear, clear-ok, CoreLaws, guarded-laws}
 use Rattle.rule_base.proofs.Integers.{times-neg, quotient-rest, multiple-most, rest-one}
 use Rattle.rule_base.proofs.Ranges.{range-from, range-to, range-low, range-high}
 use Rattle.rule_base.proofs.Values.{value-even, value-odd}
@@ -160,3 +164,23 @@ step-core-laws = record {
 
 pub step-laws : RuleLaws (guarded step-core)
 step-laws = guarded-laws step-core step-core-laws
+
+fit : (n : ℕ) → 0 < n → n ≤ 8 → (r : StepRule) → step-codec .check n r ≡ Ok tt → Fit-all (step-codec .table) (step-codec .fields r)
+fit n some few r ok =
+    let h = clear-ok (step-grounds n r) ok in
+    let a : r .a < n = leb-false _ _ (h .0) in
+    let e = h .1 .0 in
+    let f = h .1 .1 .0 in
+    let m : (pos 2 ≤ℤ r .m) × (r .m ≤ℤ pos 1000000) = grind (arith, ints) in
+    let low = rest-low r n h in
+    let high = rest-high r n h in
+    (byte-fits 1 (r .a) (omega arith), (word-fits 2 (r .m) (omega (arith, ints)) (omega (arith, ints)), (word-fits 6 (r .r) (omega (arith, ints)) (omega (arith, ints)), tt)))
+
+pub step-trips : FrameLaws (by-table step-codec)
+step-trips = by-table-laws step-codec (record {
+  code-small = omega arith;
+  laid = (refl, (refl, (refl, tt)));
+  from-fields = λ r. refl;
+  fields-from = λ bs. refl;
+  fit = fit;
+})

@@ -1,25 +1,40 @@
 -- The apart rule: two settings differ by at least d. Assumes nothing.
 use Prim.Native.Nat.{ℕ, _+_, _*_}
-use mathlib.Core.Bool.{Bool, not, cond, _&&_, _||_}
+use mathlib.Core.Bool.{Bool, true, false, not, cond, _&&_, _||_}
 use mathlib.Core.List.{List, [], _∷_}
 use lib.Dec.{leb, eqb}
-use lib.IntN.{ℤ, pos, negℤ, _-ℤ_}
+use lib.IntN.{ℤ, pos, negℤ, natAbs, _-ℤ_}
 use lib.ListN.{getD}
 use lib.Signed.{ltZ, leZ}
+use mir.Syntax.{w8, w32}
 use Rattle.std.specs.declared.option.Option.{Option}
 use Rattle.std.specs.declared.option.Option.the-variants.{None}
 use Rattle.interface.specs.declared.cut.Cut.{Cut}
 use Rattle.interface.specs.declared.fault.RecordFault.{RecordFault}
 use Rattle.interface.specs.declared.fault.RecordFault.the-variants.{Node, Clash, Number}
 use Rattle.interface.specs.declared.reading.Reading.{Reading}
+use Rattle.interface.specs.Grounds.{first-fault}
 use Rattle.interface.specs.Readings.{limit-at}
+use Rattle.wire.specs.Frames.{Field, field, field-place, Codec}
 use Rattle.rules.specs.declared.apart.ApartRule.{ApartRule}
 use Rattle.rule_base.specs.Bounds.{between, cut-at}
 use Rattle.rule_base.specs.Guards.{Core}
 
--- in the frame a is byte 2, b byte 3, and d starts at byte 4
+-- the fields behind the frame's code
+abbrev a-field : Field
+a-field = field 1 w8 false
+
+abbrev b-field : Field
+b-field = field 2 w8 false
+
+abbrev d-field : Field
+d-field = field 3 w32 true
+
 abbrev pub apart-grounds : ℕ → ApartRule → List (Bool × RecordFault)
-apart-grounds n r = (leb n (r .a), Node 2) ∷ (leb n (r .b), Node 3) ∷ (eqb (r .b) (r .a), Clash 3) ∷ (not (between (pos 1) (pos 2000000) (r .d)), Number 4) ∷ []
+apart-grounds n r =
+    (leb n (r .a), Node (field-place a-field)) ∷ (leb n (r .b), Node (field-place b-field))
+    ∷ (eqb (r .b) (r .a), Clash (field-place b-field))
+    ∷ (not (between (pos 1) (pos 2000000) (r .d)), Number (field-place d-field)) ∷ []
 
 -- z is at least d away from 0
 abbrev pub far : ℤ → ℤ → Bool
@@ -55,4 +70,13 @@ apart-core = record {
   all-within = λ r g. all-far (r .d) (least-gap r g) (greatest-gap r g);
   standing = λ r. None;
   proposed = λ r g i. cond (eqb i 0) (apart-cut r g) None;
+}
+
+abbrev pub apart-codec : Codec ApartRule
+apart-codec = record {
+  code = 5;
+  table = a-field ∷ b-field ∷ d-field ∷ [];
+  fields = λ r. pos (r .a) ∷ pos (r .b) ∷ r .d ∷ [];
+  from = λ zs. record { a = natAbs (getD zs 0 (pos 0)); b = natAbs (getD zs 1 (pos 0)); d = getD zs 2 (pos 0) };
+  check = λ n r. first-fault (apart-grounds n r);
 }

@@ -1,12 +1,13 @@
 -- The step rule: a setting divided by m leaves r. Assumes nothing.
 use Prim.Native.Nat.{ℕ, _+_, _*_}
-use mathlib.Core.Bool.{Bool, true, not, cond, _&&_}
+use mathlib.Core.Bool.{Bool, true, false, not, cond, _&&_}
 use mathlib.Core.List.{List, [], _∷_}
 use mathlib.Core.Path.{_≡_}
 use lib.Dec.{leb, eqb}
-use lib.IntN.{ℤ, pos, negℤ, _+ℤ_, _-ℤ_}
+use lib.IntN.{ℤ, pos, negℤ, natAbs, _+ℤ_, _-ℤ_}
 use lib.ListN.{getD}
 use lib.Signed.{ltZ, leZ, _≤ℤ_, _<ℤ_}
+use mir.Syntax.{w8, w32}
 use Rattle.std.specs.Numbers.{remEuclid}
 use Rattle.std.specs.declared.option.Option.{Option}
 use Rattle.std.specs.declared.option.Option.the-variants.{None}
@@ -14,6 +15,8 @@ use Rattle.interface.specs.declared.cut.Cut.{Cut}
 use Rattle.interface.specs.declared.fault.RecordFault.{RecordFault}
 use Rattle.interface.specs.declared.fault.RecordFault.the-variants.{Node, Number}
 use Rattle.interface.specs.declared.reading.Reading.{Reading}
+use Rattle.interface.specs.Grounds.{first-fault}
+use Rattle.wire.specs.Frames.{Field, field, field-place, Codec}
 use Rattle.rules.specs.declared.step.StepRule.{StepRule}
 use Rattle.rule_base.specs.Bounds.{between, equal, bounded, low-in, high-in}
 use Rattle.rule_base.specs.Guards.{Core}
@@ -22,9 +25,20 @@ use Rattle.rule_base.specs.Guards.{Core}
 unfoldable pub rest : ℤ → ℤ → ℤ
 rest m z = cond (ltZ (pos 0) m) (remEuclid z m) (pos 0)
 
--- in the frame a is byte 2, m starts at byte 3 and r at byte 7
+-- the fields behind the frame's code
+abbrev a-field : Field
+a-field = field 1 w8 false
+
+abbrev m-field : Field
+m-field = field 2 w32 true
+
+abbrev r-field : Field
+r-field = field 6 w32 true
+
 abbrev pub step-grounds : ℕ → StepRule → List (Bool × RecordFault)
-step-grounds n r = (leb n (r .a), Node 2) ∷ (not (between (pos 2) (pos 1000000) (r .m)), Number 3) ∷ (not (leZ (pos 0) (r .r) && ltZ (r .r) (r .m)), Number 7) ∷ []
+step-grounds n r =
+    (leb n (r .a), Node (field-place a-field))
+    ∷ (not (between (pos 2) (pos 1000000) (r .m)), Number (field-place m-field)) ∷ (not (leZ (pos 0) (r .r) && ltZ (r .r) (r .m)), Number (field-place r-field)) ∷ []
 
 abbrev pub leaves : StepRule → ℤ → Bool
 leaves r z = equal (rest (r .m) z) (r .r)
@@ -74,4 +88,13 @@ step-core = record {
   all-within = λ r g. one-leaves r (low-in g (r .a)) (high-in g (r .a));
   standing = λ r. None;
   proposed = step-cut;
+}
+
+abbrev pub step-codec : Codec StepRule
+step-codec = record {
+  code = 6;
+  table = a-field ∷ m-field ∷ r-field ∷ [];
+  fields = λ r. pos (r .a) ∷ r .m ∷ r .r ∷ [];
+  from = λ zs. record { a = natAbs (getD zs 0 (pos 0)); m = getD zs 1 (pos 0); r = getD zs 2 (pos 0) };
+  check = λ n r. first-fault (step-grounds n r);
 }

@@ -1,7 +1,8 @@
 // The apart rule: two settings keep a distance.
 ghost use mathlib.Core.Path.{_≡_};
 ghost use Rattle.interface.specs.Points.{values-of};
-ghost use Rattle.rules.specs.Aparts.{apart-core, apart-meets, apart-cut, least-gap, greatest-gap, far, all-near, all-far};
+ghost use Rattle.wire.specs.Frames.{by-table};
+ghost use Rattle.rules.specs.Aparts.{apart-codec, apart-core, apart-meets, apart-cut, least-gap, greatest-gap, far, all-near, all-far};
 ghost use Rattle.rule_base.specs.Guards.{guarded};
 use interface::cut::Cut;
 use interface::fault::RecordFault;
@@ -15,6 +16,12 @@ use rule_base::bounds::limit;
 use rule_base::bounds::negative;
 use rule_base::guard::in_range;
 use rule_base::guard::judged;
+use wire::bytes::byte_at;
+use wire::bytes::i32_at;
+use wire::bytes::i32_bytes;
+use wire::frame::Frame;
+use wire::frame::FrameKind;
+use wire::output::put_line;
 
 // Settings a and b differ by at least d.
 #[derive(Clone, Copy)]
@@ -121,5 +128,39 @@ pub impl Rule for ApartRule as ApartIsRule {
             return None;
         }
         self.cut(reading)
+    }
+}
+
+impl ApartRule {
+    fn bytes(&self) -> [u8; 7]
+        ensures { λ r. ⌜ r ≡ by-table apart-codec .write (now (self .entry)) ⌝ }
+    {
+        let d = i32_bytes(self.d);
+        [5, self.a, self.b, d[0], d[1], d[2], d[3]]
+    }
+}
+
+pub impl Frame for ApartRule as ApartFrame {
+    ghost frame = { by-table apart-codec };
+
+    fn kind() -> FrameKind {
+        FrameKind {
+            code: 5,
+            base: 7,
+            each: 0,
+        }
+    }
+
+    fn read(digits: &[u8]) -> ApartRule {
+        ApartRule {
+            a: byte_at(digits, 1),
+            b: byte_at(digits, 2),
+            d: i32_at(digits, 3),
+        }
+    }
+
+    fn write(&self, out: &mut [u8], at: usize) -> Option<usize> {
+        let bytes = self.bytes();
+        put_line(out, at, &bytes)
     }
 }

@@ -4,7 +4,8 @@ ghost use lib.IntN.{_+ℤ_};
 ghost use Rattle.interface.specs.Nodes.{value};
 ghost use Rattle.interface.specs.Points.{values-of};
 ghost use Rattle.rule_base.specs.Guards.{guarded};
-ghost use Rattle.rules.specs.Pairs.{pair-core, pair-meets, pair-none, pair-all, pair-cut};
+ghost use Rattle.wire.specs.Frames.{by-table};
+ghost use Rattle.rules.specs.Pairs.{pair-codec, pair-core, pair-meets, pair-none, pair-all, pair-cut};
 use interface::cut::Cut;
 use interface::fault::RecordFault;
 use interface::node::opposite;
@@ -16,6 +17,12 @@ use rule_base::bounds::cut_at;
 use rule_base::guard::in_range;
 use rule_base::guard::judged;
 use rule_base::guard::node_off;
+use wire::bytes::byte_at;
+use wire::bytes::i32_at;
+use wire::bytes::i32_bytes;
+use wire::frame::Frame;
+use wire::frame::FrameKind;
+use wire::output::put_line;
 
 // v(p) + v(q) is at most c.
 #[derive(Clone, Copy)]
@@ -94,5 +101,39 @@ pub impl Rule for PairRule as PairIsRule {
             return None;
         }
         self.cut()
+    }
+}
+
+impl PairRule {
+    fn bytes(&self) -> [u8; 7]
+        ensures { λ r. ⌜ r ≡ by-table pair-codec .write (now (self .entry)) ⌝ }
+    {
+        let c = i32_bytes(self.c);
+        [2, self.p, self.q, c[0], c[1], c[2], c[3]]
+    }
+}
+
+pub impl Frame for PairRule as PairFrame {
+    ghost frame = { by-table pair-codec };
+
+    fn kind() -> FrameKind {
+        FrameKind {
+            code: 2,
+            base: 7,
+            each: 0,
+        }
+    }
+
+    fn read(digits: &[u8]) -> PairRule {
+        PairRule {
+            p: byte_at(digits, 1),
+            q: byte_at(digits, 2),
+            c: i32_at(digits, 3),
+        }
+    }
+
+    fn write(&self, out: &mut [u8], at: usize) -> Option<usize> {
+        let bytes = self.bytes();
+        put_line(out, at, &bytes)
     }
 }

@@ -4,7 +4,8 @@ ghost use Prim.Native.Nat.{_^_, _≤_};
 ghost use lib.IntN.{natAbs, negℤ, _-ℤ_};
 ghost use Rattle.interface.specs.Points.{values-of};
 ghost use Rattle.rule_base.specs.Guards.{guarded};
-ghost use Rattle.rules.specs.Steps.{step-core, step-meets, step-cut, rest, leaves, last-up-to, first-from, Divides, Last-up-to, First-from, none-leaves, one-leaves};
+ghost use Rattle.wire.specs.Frames.{by-table};
+ghost use Rattle.rules.specs.Steps.{step-codec, step-core, step-meets, step-cut, rest, leaves, last-up-to, first-from, Divides, Last-up-to, First-from, none-leaves, one-leaves};
 use interface::cut::Cut;
 use interface::fault::RecordFault;
 use interface::point::Point;
@@ -18,6 +19,12 @@ use rule_base::bounds::low;
 use rule_base::guard::in_range;
 use rule_base::guard::is_equal;
 use rule_base::guard::judged;
+use wire::bytes::byte_at;
+use wire::bytes::i32_at;
+use wire::bytes::i32_bytes;
+use wire::frame::Frame;
+use wire::frame::FrameKind;
+use wire::output::put_line;
 
 // Setting a divided by m, rounded down, leaves r.
 #[derive(Clone, Copy)]
@@ -168,5 +175,40 @@ pub impl Rule for StepRule as StepIsRule {
             return None;
         }
         self.cut(reading, i)
+    }
+}
+
+impl StepRule {
+    fn bytes(&self) -> [u8; 10]
+        ensures { λ r. ⌜ r ≡ by-table step-codec .write (now (self .entry)) ⌝ }
+    {
+        let m = i32_bytes(self.m);
+        let r = i32_bytes(self.r);
+        [6, self.a, m[0], m[1], m[2], m[3], r[0], r[1], r[2], r[3]]
+    }
+}
+
+pub impl Frame for StepRule as StepFrame {
+    ghost frame = { by-table step-codec };
+
+    fn kind() -> FrameKind {
+        FrameKind {
+            code: 6,
+            base: 10,
+            each: 0,
+        }
+    }
+
+    fn read(digits: &[u8]) -> StepRule {
+        StepRule {
+            a: byte_at(digits, 1),
+            m: i32_at(digits, 2),
+            r: i32_at(digits, 6),
+        }
+    }
+
+    fn write(&self, out: &mut [u8], at: usize) -> Option<usize> {
+        let bytes = self.bytes();
+        put_line(out, at, &bytes)
     }
 }

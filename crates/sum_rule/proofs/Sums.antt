@@ -1,6 +1,6 @@
 -- The sum rule keeps its laws: each term lies between its least and its greatest value. Assumes nothing.
-use Prim.Native.Nat.{ℕ, suc, _+_, _*_, _<_}
-use mathlib.Core.Bool.{Bool, true, false, cond}
+use Prim.Native.Nat.{ℕ, suc, _+_, _*_, _<_, _≤_}
+use mathlib.Core.Bool.{Bool, true, false, cond, not}
 use mathlib.Core.List.{List}
 use mathlib.Core.Path.{_≡_, refl, ap, sym, _∙_}
 use native.Mathlib.Omega.{arith}
@@ -8,23 +8,28 @@ use borrow.Author.Differences.{ints}
 use lib.Dec.{eqb}
 use lib.IntN.{ℤ, pos, negsuc, negℤ, natAbs, _+ℤ_, _-ℤ_, _*ℤ_}
 use lib.ListN.{getD}
-use lib.Signed.{_≤ℤ_, _<ℤ_, ltZ}
+use lib.Signed.{_≤ℤ_, _<ℤ_, ltZ, leZ}
 use Rattle.std.specs.Numbers.{divEuclid}
 use Rattle.std.specs.declared.option.Option.the-variants.{Some, None}
-use Rattle.std.proofs.shelf.Tests.{leb-false, cond-false, le-ltb}
+use Rattle.std.specs.declared.result.Result.the-variants.{Ok}
+use Rattle.std.proofs.shelf.Tests.{leb-false, cond-false, le-ltb, not-false, or-parts, and-parts}
 use Rattle.interface.specs.declared.cut.Cut.{Cut}
 use Rattle.interface.specs.declared.reading.Reading.{Reading}
 use Rattle.interface.specs.Cuts.{Meets}
 use Rattle.interface.specs.Nodes.{value}
+use Rattle.interface.specs.Numbers.{within}
 use Rattle.interface.specs.Readings.{Within, Sums-of}
 use Rattle.interface.specs.Rules.{RuleLaws}
+use Rattle.wire.specs.Frames.{FrameLaws, by-table, Fit-all}
+use Rattle.wire.proofs.Codecs.{by-table-laws}
 use Rattle.sum_rule.specs.declared.sum.SumRule.{SumRule}
 use Rattle.sum_rule.specs.declared.sum.Term.{Term}
 use Rattle.rule_base.specs.Bounds.{equal, bounded, low-in, high-in}
 use Rattle.rule_base.specs.Guards.{guarded}
-use Rattle.sum_rule.specs.Sums.{times, sum-core, sum-grounds, sum-meets, sum-none, sum-all, sum-cut, term-cut, left-for, is-empty, term-at, least-of, greatest-of, three}
+use Rattle.sum_rule.specs.Sums.{times, wrong-number, sum-codec, sum-core, sum-grounds, sum-meets, sum-none, sum-all, sum-cut, term-cut, left-for, is-empty, term-at, least-of, greatest-of, three}
 use Rattle.rule_base.proofs.CutsMet.{bound-met}
-use Rattle.rule_base.proofs.Guards.{Clear, CoreLaws, guarded-laws}
+use Rattle.rule_base.proofs.Fits.{byte-fits, small-fits, word-fits}
+use Rattle.rule_base.proofs.Guards.{Clear, clear-ok, CoreLaws, guarded-laws}
 use Rattle.rule_base.proofs.Integers.{times-neg, floor-most, least-at, greatest-at}
 use Rattle.rule_base.proofs.Ranges.{range-from, range-to, range-low, range-high}
 use Rattle.rule_base.proofs.Values.{value-even, value-odd}
@@ -124,3 +129,48 @@ sum-core-laws = record {
 
 pub sum-laws : RuleLaws (guarded sum-core)
 sum-laws = guarded-laws sum-core sum-core-laws
+
+right : (u : Term) → wrong-number u ≡ false → (negℤ (pos 100) ≤ℤ u .coefficient) × (u .coefficient ≤ℤ pos 100)
+right u e =
+    let w = not-false _ (or-parts (not (within 100 (u .coefficient))) _ e .0) in
+    let p = and-parts (leZ (negℤ (pos 100)) (u .coefficient)) _ w in
+    (omega (arith, ints, p .0), omega (arith, ints, p .1))
+
+fit : (n : ℕ) → 0 < n → n ≤ 8 → (r : SumRule) → sum-codec .check n r ≡ Ok tt → Fit-all (sum-codec .table) (sum-codec .fields r)
+fit n some few r ok =
+    let h = clear-ok (sum-grounds n r) ok in
+    let a : r .first .setting < n = leb-false _ _ (h .0) in
+    let b : r .second .setting < n = leb-false _ _ (h .1 .0) in
+    let c : r .third .setting < n = leb-false _ _ (h .1 .1 .0) in
+    let numbers = h .1 .1 .1 .1 .1 .1 in
+    let i = right (r .first) (numbers .0) in
+    let j = right (r .second) (numbers .1 .0) in
+    let k = right (r .third) (numbers .1 .1 .0) in
+    let t = and-parts (leZ (negℤ (pos 300000000)) (r .t)) _ (not-false _ (numbers .1 .1 .1 .0)) in (
+      byte-fits 1 _ (omega arith),
+      (
+        small-fits 2 _ (i .0) (i .1),
+        (
+          byte-fits 3 _ (omega arith),
+          (
+            small-fits 4 _ (j .0) (j .1),
+            (
+              byte-fits 5 _ (omega arith),
+              (
+                small-fits 6 _ (k .0) (k .1),
+                (word-fits 7 _ (omega (arith, ints, t .0)) (omega (arith, ints, t .1)), tt),
+              ),
+            ),
+          ),
+        ),
+      ),
+    )
+
+pub sum-trips : FrameLaws (by-table sum-codec)
+sum-trips = by-table-laws sum-codec (record {
+  code-small = omega arith;
+  laid = (refl, (refl, (refl, (refl, (refl, (refl, (refl, tt)))))));
+  from-fields = λ r. refl;
+  fields-from = λ bs. refl;
+  fit = fit;
+})

@@ -1,11 +1,13 @@
 -- The sum rule: three coefficients times settings add up to at most t. Assumes nothing.
 use Prim.Native.Nat.{ℕ, _+_, _*_}
-use mathlib.Core.Bool.{Bool, not, cond, _&&_, _||_}
+use mathlib.Core.Bool.{Bool, true, false, not, cond, _&&_, _||_}
 use mathlib.Core.List.{List, [], _∷_}
 use lib.Dec.{leb, eqb}
 use lib.IntN.{ℤ, pos, negℤ, natAbs, _+ℤ_, _-ℤ_, _*ℤ_}
 use lib.ListN.{getD}
 use lib.Signed.{ltZ, leZ}
+use mir.Syntax.{w8, w32}
+use mir.Val.{toZ}
 use Rattle.std.specs.Numbers.{divEuclid}
 use Rattle.std.specs.declared.option.Option.{Option}
 use Rattle.std.specs.declared.option.Option.the-variants.{None}
@@ -13,7 +15,9 @@ use Rattle.interface.specs.declared.cut.Cut.{Cut}
 use Rattle.interface.specs.declared.fault.RecordFault.{RecordFault}
 use Rattle.interface.specs.declared.fault.RecordFault.the-variants.{Node, Clash, Number, Empty}
 use Rattle.interface.specs.declared.reading.Reading.{Reading}
+use Rattle.interface.specs.Grounds.{first-fault}
 use Rattle.interface.specs.Numbers.{within}
+use Rattle.wire.specs.Frames.{Field, field, field-place, Codec}
 use Rattle.sum_rule.specs.declared.sum.SumRule.{SumRule}
 use Rattle.sum_rule.specs.declared.sum.Term.{Term}
 use Rattle.rule_base.specs.Bounds.{bounded, low-in, high-in, equal}
@@ -34,12 +38,28 @@ clash u v = not (is-empty u) && (not (is-empty v) && eqb (u .setting) (v .settin
 abbrev pub wrong-number : Term → Bool
 wrong-number u = not (within 100 (u .coefficient)) || (is-empty u && not (eqb (u .setting) 0))
 
--- in the frame the settings are bytes 2, 4 and 6, each with its coefficient behind it, and t starts at byte 8
+-- the fields behind the frame's code: term i's setting and coefficient, and t
+abbrev setting-field : ℕ → Field
+setting-field i = field (1 + 2 * i) w8 false
+
+abbrev coefficient-field : ℕ → Field
+coefficient-field i = field (2 + 2 * i) w8 true
+
+abbrev t-field : Field
+t-field = field 7 w32 true
+
 abbrev pub sum-grounds : ℕ → SumRule → List (Bool × RecordFault)
 sum-grounds n r =
-    (leb n (r .first .setting), Node 2) ∷ (leb n (r .second .setting), Node 4) ∷ (leb n (r .third .setting), Node 6)
-    ∷ (clash (r .first) (r .second), Clash 4) ∷ (clash (r .first) (r .third), Clash 6) ∷ (clash (r .second) (r .third), Clash 6)
-    ∷ (wrong-number (r .first), Number 3) ∷ (wrong-number (r .second), Number 5) ∷ (wrong-number (r .third), Number 7) ∷ (not (within 300000000 (r .t)), Number 8)
+    (leb n (r .first .setting), Node (field-place (setting-field 0)))
+    ∷ (leb n (r .second .setting), Node (field-place (setting-field 1)))
+    ∷ (leb n (r .third .setting), Node (field-place (setting-field 2)))
+    ∷ (clash (r .first) (r .second), Clash (field-place (setting-field 1)))
+    ∷ (clash (r .first) (r .third), Clash (field-place (setting-field 2)))
+    ∷ (clash (r .second) (r .third), Clash (field-place (setting-field 2)))
+    ∷ (wrong-number (r .first), Number (field-place (coefficient-field 0)))
+    ∷ (wrong-number (r .second), Number (field-place (coefficient-field 1)))
+    ∷ (wrong-number (r .third), Number (field-place (coefficient-field 2)))
+    ∷ (not (within 300000000 (r .t)), Number (field-place t-field))
     ∷ (is-empty (r .first) && (is-empty (r .second) && is-empty (r .third)), Empty 1) ∷ []
 
 -- the term at the point x, and its least and greatest value within the reading
@@ -83,4 +103,20 @@ sum-core = record {
   all-within = sum-all;
   standing = λ r. None;
   proposed = sum-cut;
+}
+
+-- the term whose setting is byte i, counted from 0, and whose coefficient is the byte behind it
+abbrev pub read-term : List ℕ → ℕ → Term
+read-term bs i = record { setting = getD bs i 0; coefficient = toZ w8 (getD bs (i + 1) 0) }
+
+abbrev term-from : List ℤ → ℕ → Term
+term-from zs i = record { setting = natAbs (getD zs (2 * i) (pos 0)); coefficient = getD zs (2 * i + 1) (pos 0) }
+
+abbrev pub sum-codec : Codec SumRule
+sum-codec = record {
+  code = 3;
+  table = setting-field 0 ∷ coefficient-field 0 ∷ setting-field 1 ∷ coefficient-field 1 ∷ setting-field 2 ∷ coefficient-field 2 ∷ t-field ∷ [];
+  fields = λ r. pos (r .first .setting) ∷ r .first .coefficient ∷ pos (r .second .setting) ∷ r .second .coefficient ∷ pos (r .third .setting) ∷ r .third .coefficient ∷ r .t ∷ [];
+  from = λ zs. record { first = term-from zs 0; second = term-from zs 1; third = term-from zs 2; t = getD zs 6 (pos 0) };
+  check = λ n r. first-fault (sum-grounds n r);
 }
