@@ -29,8 +29,11 @@ abbrev pub any-model : RuleModel AnyRule
 any-model = joined (guarded pair-core) (joined (guarded sum-core) (joined (guarded apart-core) (guarded step-core)))
 
 -- by its first byte: 2 is a pair, 3 a sum, 5 an apart, and any other that is known a step
+abbrev pub other-rule : ℕ → List ℕ → Joined ApartRule StepRule
+other-rule code bs = cond (eqb code 5) (First (by-table apart-codec .read bs)) (Second (by-table step-codec .read bs))
+
 abbrev pub rule-of : List ℕ → AnyRule
-rule-of bs = cond (eqb (getD bs 0 0) 2) (First (by-table pair-codec .read bs)) (cond (eqb (getD bs 0 0) 3) (Second (First (by-table sum-codec .read bs))) (cond (eqb (getD bs 0 0) 5) (Second (Second (First (by-table apart-codec .read bs)))) (Second (Second (Second (by-table step-codec .read bs))))))
+rule-of bs = cond (eqb (getD bs 0 0) 2) (First (by-table pair-codec .read bs)) (cond (eqb (getD bs 0 0) 3) (Second (First (by-table sum-codec .read bs))) (Second (Second (other-rule (getD bs 0 0) bs))))
 
 -- the kinds of frame that a line may be
 abbrev pub known-kinds : List FrameKind

@@ -3,7 +3,7 @@ ghost use mathlib.Core.Path.{_≡_};
 ghost use lib.IntN.{pos};
 ghost use Rattle.rules.specs.declared.joined.Joined.the-variants.{First};
 ghost use Rattle.wire.specs.Bytes.{unhex};
-ghost use Rattle.problem.specs.AnyRules.{known-kinds, rule-of};
+ghost use Rattle.problem.specs.AnyRules.{known-kinds, other-rule, rule-of};
 use interface::home::Home;
 use rules::any::AnyRule;
 use rules::apart::ApartFrame;
@@ -24,28 +24,43 @@ use wire::home_frame::HomeFrame;
 pub fn kinds() -> [FrameKind; 5]
     ensures { λ r. ⌜ r ≡ known-kinds ⌝ }
 {
-    [Home::kind(), PairRule::kind(), SumRule::kind(), ApartRule::kind(), StepRule::kind()]
+    [
+        Home::kind(),
+        PairRule::kind(),
+        SumRule::kind(),
+        ApartRule::kind(),
+        StepRule::kind(),
+    ]
+}
+
+// A rule that is neither a pair nor a sum.
+fn other_rule(digits: &[u8], code: u8) -> Joined<ApartRule, StepRule>
+    ensures { λ r. ⌜ r ≡ other-rule code (unhex (now (digits .entry))) ⌝ }
+{
+    if code == 5 {
+        Joined::First(ApartRule::read(digits))
+    } else {
+        Joined::Second(StepRule::read(digits))
+    }
 }
 
 // The rule that a line's digits give, by its first byte.
 pub fn read_rule(digits: &[u8]) -> AnyRule
     ensures { λ r. ⌜ r ≡ rule-of (unhex (now (digits .entry))) ⌝ }
 {
-    match byte_at(digits, 0) {
-        2 => Joined::First(PairRule::read(digits)),
-        3 => Joined::Second(Joined::First(SumRule::read(digits))),
-        5 => Joined::Second(Joined::Second(Joined::First(ApartRule::read(digits)))),
-        _ => Joined::Second(Joined::Second(Joined::Second(StepRule::read(digits)))),
+    let code = byte_at(digits, 0);
+    if code == 2 {
+        return Joined::First(PairRule::read(digits));
     }
+    if code == 3 {
+        return Joined::Second(Joined::First(SumRule::read(digits)));
+    }
+    Joined::Second(Joined::Second(other_rule(digits, code)))
 }
 
 // A record to fill an array with.
 pub fn no_rule() -> AnyRule
     ensures { λ r. ⌜ r ≡ First (record { p = 0; q = 0; c = pos 0 }) ⌝ }
 {
-    Joined::First(PairRule {
-        p: 0,
-        q: 0,
-        c: 0,
-    })
+    Joined::First(PairRule { p: 0, q: 0, c: 0 })
 }

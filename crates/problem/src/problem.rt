@@ -6,13 +6,13 @@ ghost use mathlib.Core.List.{[]};
 ghost use Rattle.wire.specs.Readers.{left-of};
 ghost use Rattle.problem.specs.Problems.{rules-in, seen-by, rules-seen};
 ghost use Rattle.problem.specs.Reading.{rules-from, with-rules, read-text, refusal};
-use rules::any::AnyRule;
 use super::any_rule::no_rule;
 use super::reading::first_home;
 use super::reading::size_of;
 use super::reading::stated_line;
 use interface::fault::SolverFault;
 use interface::home::Home;
+use rules::any::AnyRule;
 use wire::reader::Reader;
 
 // A home and its rules, the first `count` of the array.

@@ -7,7 +7,6 @@ ghost use Rattle.interface.specs.declared.fault.RecordFault.the-variants.{Frame
 ghost use Rattle.wire.specs.Readers.{left-of, advanced};
 ghost use Rattle.wire.specs.Text.{size-grounds};
 ghost use Rattle.problem.specs.Reading.{after, home-line, rule-line, stated-line, homed, ruled, size-check, first-home};
-use rules::any::AnyRule;
 use super::any_rule::kinds;
 use super::any_rule::read_rule;
 use interface::fault::FrameFault;
@@ -19,6 +18,7 @@ use interface::fault::TextFault;
 use interface::fault::TextInFrame;
 use interface::home::Home;
 use interface::rule::Rule;
+use rules::any::AnyRule;
 use rules::apart::ApartIsRule;
 use rules::joined::JoinedIsRule;
 use rules::pair::PairIsRule;
