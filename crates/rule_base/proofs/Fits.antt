@@ -1,5 +1,5 @@
 -- Numbers that a check keeps small fit the fields of a frame. Assumes nothing.
-use Prim.Native.Nat.{ℕ, _<_, _≤_}
+use Prim.Native.Nat.{ℕ, _<_}
 use mathlib.Core.Bool.{true, false}
 use mathlib.Core.Path.{refl}
 use native.Mathlib.Omega.{arith}

@@ -1,10 +1,10 @@
 -- Division rounded down, products with a range, and halves: a multiple of k moves in steps of k. Assumes nothing.
-use Prim.Native.Nat.{ℕ, zero, suc, _+_, _-_, _*_, _/_, _%_, _^_, _<_, _≤_}
-use mathlib.Core.Bool.{Bool, true, false, cond}
-use mathlib.Core.Path.{_≡_, refl, ap, sym, _∙_}
+use Prim.Native.Nat.{ℕ, zero, suc, _+_, _/_, _^_, _<_, _≤_}
+use mathlib.Core.Bool.{cond}
+use mathlib.Core.Path.{_≡_, ap}
 use native.Mathlib.Nat.{mul-add, mul-suc, mul-le-mul, mul-le-mul-left, div-add-mod, mod-lt}
 use native.Mathlib.Omega.{arith}
-use borrow.Author.Differences.{up, down, ints, product-is}
+use borrow.Author.Differences.{up, down, ints}
 use lib.IntN.{ℤ, pos, negsuc, negℤ, natAbs, _+ℤ_, _-ℤ_, _*ℤ_}
 use lib.Signed.{_≤ℤ_, _<ℤ_, ltZ}
 use Rattle.std.specs.Numbers.{divEuclid, remEuclid}

@@ -1,6 +1,6 @@
 -- A rule from its core: what it answers of a record that passes its check. Assumes nothing.
 use Prim.Native.Nat.{ℕ}
-use mathlib.Core.Bool.{Bool, false, cond, _&&_}
+use mathlib.Core.Bool.{Bool, cond, _&&_}
 use mathlib.Core.List.{List}
 use lib.IntN.{ℤ}
 use Rattle.std.specs.Results.{isOk}

@@ -1,6 +1,5 @@
 // Bounds as cuts, and the limits that they come from. Nodes are wider here, so that every setting has its two.
 ghost use mathlib.Core.Path.{_≡_};
-ghost use Prim.Native.Nat.{_≤_};
 ghost use lib.IntN.{pos, negℤ, _+ℤ_, _-ℤ_};
 ghost use lib.Signed.{_≤ℤ_};
 ghost use Rattle.std.specs.Numbers.{maxZ};

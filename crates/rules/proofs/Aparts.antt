@@ -20,7 +20,7 @@ use Rattle.interface.specs.Rules.{RuleLaws}
 use Rattle.wire.specs.Frames.{FrameLaws, by-table, Fit-all}
 use Rattle.wire.proofs.Codecs.{by-table-laws}
 use Rattle.rules.specs.declared.apart.ApartRule.{ApartRule}
-use Rattle.rules.specs.Aparts.{apart-codec, apart-core, apart-grounds, apart-meets, apart-cut, least-gap, greatest-gap, far, all-near, all-far}
+use Rattle.rules.specs.Aparts.{apart-codec, apart-core, apart-grounds, apart-cut, least-gap, greatest-gap, far, all-near, all-far}
 use Rattle.rule_base.specs.Bounds.{cut-at}
 use Rattle.rule_base.specs.Guards.{guarded}
 use Rattle.rule_base.proofs.CutsMet.{cut-met}

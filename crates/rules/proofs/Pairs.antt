@@ -6,16 +6,15 @@ use mathlib.Core.Path.{_≡_, refl}
 use native.Mathlib.Omega.{arith}
 use borrow.Author.Differences.{ints}
 use lib.Dec.{eqb}
-use lib.IntN.{ℤ, pos, negℤ, _+ℤ_}
-use lib.Signed.{_≤ℤ_, leZ}
+use lib.IntN.{ℤ}
 use Rattle.std.specs.declared.option.Option.the-variants.{Some, None}
 use Rattle.std.specs.declared.result.Result.the-variants.{Ok}
 use Rattle.std.proofs.shelf.Tests.{leb-false}
 use Rattle.interface.specs.declared.cut.Cut.{Cut}
 use Rattle.interface.specs.declared.reading.Reading.{Reading}
 use Rattle.interface.specs.Cuts.{Meets}
-use Rattle.interface.specs.Nodes.{opp, value}
-use Rattle.interface.specs.Readings.{limit-at, Within, Sums-of}
+use Rattle.interface.specs.Nodes.{opp}
+use Rattle.interface.specs.Readings.{Within, Sums-of}
 use Rattle.interface.specs.Rules.{RuleLaws}
 use Rattle.wire.specs.Frames.{FrameLaws, by-table, Fit-all}
 use Rattle.wire.proofs.Codecs.{by-table-laws}

@@ -8,7 +8,7 @@ use borrow.Author.Differences.{ints}
 use lib.Dec.{eqb}
 use lib.IntN.{ℤ, pos, negsuc, negℤ, _+ℤ_, _-ℤ_, _*ℤ_}
 use lib.ListN.{getD}
-use lib.Signed.{_≤ℤ_, _<ℤ_, ltZ}
+use lib.Signed.{_≤ℤ_, _<ℤ_}
 use Rattle.std.specs.Numbers.{divEuclid, remEuclid}
 use Rattle.std.specs.declared.option.Option.the-variants.{Some, None}
 use Rattle.std.specs.declared.result.Result.the-variants.{Ok}
@@ -24,7 +24,7 @@ use Rattle.wire.proofs.Codecs.{by-table-laws}
 use Rattle.rules.specs.declared.step.StepRule.{StepRule}
 use Rattle.rule_base.specs.Bounds.{equal, bounded, low-in, high-in}
 use Rattle.rule_base.specs.Guards.{guarded}
-use Rattle.rules.specs.Steps.{rest, step-codec, step-core, step-grounds, step-meets, step-cut, leaves, last-up-to, first-from, Divides, Last-up-to, First-from, none-leaves, one-leaves}
+use Rattle.rules.specs.Steps.{rest, step-codec, step-core, step-grounds, step-meets, leaves, last-up-to, first-from, Divides, Last-up-to, First-from, none-leaves, one-leaves}
 use Rattle.rule_base.proofs.CutsMet.{bound-met}
 use Rattle.rule_base.proofs.Fits.{byte-fits, word-fits}
 use Rattle.rule_base.proofs.Guards.{Clear, clear-ok, CoreLaws, guarded-laws}

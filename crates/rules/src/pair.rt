@@ -1,7 +1,5 @@
 // The pair rule: the values at two nodes add up to at most a number.
 ghost use mathlib.Core.Path.{_≡_};
-ghost use lib.IntN.{_+ℤ_};
-ghost use Rattle.interface.specs.Nodes.{value};
 ghost use Rattle.interface.specs.Points.{values-of};
 ghost use Rattle.rule_base.specs.Guards.{guarded};
 ghost use Rattle.wire.specs.Frames.{by-table};

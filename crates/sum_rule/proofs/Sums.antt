@@ -2,13 +2,13 @@
 use Prim.Native.Nat.{ℕ, suc, _+_, _*_, _<_, _≤_}
 use mathlib.Core.Bool.{Bool, true, false, cond, not}
 use mathlib.Core.List.{List}
-use mathlib.Core.Path.{_≡_, refl, ap, sym, _∙_}
+use mathlib.Core.Path.{_≡_, refl, ap}
 use native.Mathlib.Omega.{arith}
 use borrow.Author.Differences.{ints}
 use lib.Dec.{eqb}
-use lib.IntN.{ℤ, pos, negsuc, negℤ, natAbs, _+ℤ_, _-ℤ_, _*ℤ_}
+use lib.IntN.{ℤ, pos, negsuc, negℤ, natAbs, _+ℤ_}
 use lib.ListN.{getD}
-use lib.Signed.{_≤ℤ_, _<ℤ_, ltZ, leZ}
+use lib.Signed.{_≤ℤ_, ltZ, leZ}
 use Rattle.std.specs.Numbers.{divEuclid}
 use Rattle.std.specs.declared.option.Option.the-variants.{Some, None}
 use Rattle.std.specs.declared.result.Result.the-variants.{Ok}
@@ -24,9 +24,9 @@ use Rattle.wire.specs.Frames.{FrameLaws, by-table, Fit-all}
 use Rattle.wire.proofs.Codecs.{by-table-laws}
 use Rattle.sum_rule.specs.declared.sum.SumRule.{SumRule}
 use Rattle.sum_rule.specs.declared.sum.Term.{Term}
-use Rattle.rule_base.specs.Bounds.{equal, bounded, low-in, high-in}
+use Rattle.rule_base.specs.Bounds.{equal, bounded}
 use Rattle.rule_base.specs.Guards.{guarded}
-use Rattle.sum_rule.specs.Sums.{times, wrong-number, sum-codec, sum-core, sum-grounds, sum-meets, sum-none, sum-all, sum-cut, term-cut, left-for, is-empty, term-at, least-of, greatest-of, three}
+use Rattle.sum_rule.specs.Sums.{times, wrong-number, sum-codec, sum-core, sum-grounds, sum-meets, sum-none, sum-all, term-cut, left-for, is-empty, term-at, least-of, greatest-of}
 use Rattle.rule_base.proofs.CutsMet.{bound-met}
 use Rattle.rule_base.proofs.Fits.{byte-fits, small-fits, word-fits}
 use Rattle.rule_base.proofs.Guards.{Clear, clear-ok, CoreLaws, guarded-laws}

@@ -8,9 +8,7 @@ ghost use Rattle.std.specs.Numbers.{divEuclid};
 ghost use Rattle.interface.specs.Points.{values-of};
 ghost use Rattle.rule_base.specs.Bounds.{low-in, high-in};
 ghost use Rattle.rule_base.specs.Guards.{guarded};
-ghost use Rattle.wire.specs.Bytes.{unhex};
-ghost use Rattle.wire.specs.Frames.{by-table};
-ghost use Rattle.sum_rule.specs.Sums.{sum-codec, read-term, sum-core, sum-meets, sum-none, sum-all, times, is-empty, clash, wrong-number, term-at, least-of, greatest-of, three, left-for, term-cut, sum-cut};
+ghost use Rattle.sum_rule.specs.Sums.{sum-core, sum-meets, sum-none, sum-all, times, is-empty, clash, wrong-number, term-at, least-of, greatest-of, three, left-for, term-cut, sum-cut};
 use interface::cut::Cut;
 use interface::fault::RecordFault;
 use interface::point::Point;
@@ -23,13 +21,6 @@ use rule_base::bounds::low;
 use rule_base::guard::in_range;
 use rule_base::guard::is_equal;
 use rule_base::guard::judged;
-use wire::bytes::byte_at;
-use wire::bytes::i8_at;
-use wire::bytes::i32_at;
-use wire::bytes::i32_bytes;
-use wire::frame::Frame;
-use wire::frame::FrameKind;
-use wire::output::put_line;
 
 // A coefficient times a setting; a coefficient 0 stands for no term.
 #[derive(Clone, Copy)]
@@ -266,66 +257,5 @@ pub impl Rule for SumRule as SumIsRule {
             return None;
         }
         self.cut(reading, i)
-    }
-}
-
-impl SumRule {
-    fn bytes(&self) -> [u8; 11]
-        ensures { λ r. ⌜ r ≡ by-table sum-codec .write (now (self .entry)) ⌝ }
-    {
-        let first = self.first.coefficient.cast_unsigned();
-        let second = self.second.coefficient.cast_unsigned();
-        let third = self.third.coefficient.cast_unsigned();
-        let t = i32_bytes(self.t);
-        [
-            3,
-            self.first.setting,
-            first,
-            self.second.setting,
-            second,
-            self.third.setting,
-            third,
-            t[0],
-            t[1],
-            t[2],
-            t[3],
-        ]
-    }
-}
-
-// The term whose setting is byte i and whose coefficient is the byte behind it.
-fn term_at(digits: &[u8], i: u8) -> Term
-    ensures { λ r. ⌜ r ≡ read-term (unhex (now (digits .entry))) i ⌝ }
-{
-    let place = i as usize;
-    Term {
-        setting: byte_at(digits, place),
-        coefficient: i8_at(digits, place + 1),
-    }
-}
-
-pub impl Frame for SumRule as SumFrame {
-    ghost frame = { by-table sum-codec };
-
-    fn kind() -> FrameKind {
-        FrameKind {
-            code: 3,
-            base: 11,
-            each: 0,
-        }
-    }
-
-    fn read(digits: &[u8]) -> SumRule {
-        SumRule {
-            first: term_at(digits, 1),
-            second: term_at(digits, 3),
-            third: term_at(digits, 5),
-            t: i32_at(digits, 7),
-        }
-    }
-
-    fn write(&self, out: &mut [u8], at: usize) -> Option<usize> {
-        let bytes = self.bytes();
-        put_line(out, at, &bytes)
     }
 }

@@ -4,7 +4,7 @@ use lib.IntN.{ℤ, pos, negℤ, _-ℤ_}
 use lib.ListN.{getD}
 use mir.Syntax.{w32, w64}
 use mir.Val.{toZ, ofZ}
-use Prim.Native.Nat.{_/_, _%_}
+use Prim.Native.Nat.{_/_}
 use borrow.Author.Differences.{ints}
 use Rattle.std.proofs.shelf.Tests.{cond-true, cond-false, eq-eqb, ne-eqb}
 use Rattle.interface.specs.Nodes.{value}

@@ -1,6 +1,6 @@
 use mathlib.Core.Path.{ap, _∙_}
 use Rattle.wire.specs.Output.{line-end, line-put}
-use Rattle.sum_rule.proofs.sum.SumFrame.write.Needs as need
+use Rattle.sum_rule.proofs.frame.SumFrame.write.Needs as need
 
 pub returns : need.returns
 returns c =
