@@ -1,2 +1,4 @@
 pub mod Cuts
 pub mod Grounds
+pub mod Halves
+pub mod Homes
