@@ -1,0 +1,4 @@
+pub mod Answers
+pub mod Boxes
+pub mod Model
+pub mod Splits
