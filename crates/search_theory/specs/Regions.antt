@@ -36,8 +36,8 @@ same-number a b = leZ a b && leZ b a
 abbrev pub same-numbers : List ℤ → List ℤ → Bool
 same-numbers [] [] = true
 same-numbers [] (b ∷ bs) = false
-same-numbers (a ∷ as) [] = false
-same-numbers (a ∷ as) (b ∷ bs) = same-number a b && same-numbers as bs
+same-numbers (a ∷ more) [] = false
+same-numbers (a ∷ more) (b ∷ bs) = same-number a b && same-numbers more bs
 
 -- two readings have the same limits
 abbrev pub same-limits : Reading → Reading → Bool
