@@ -1,6 +1,10 @@
 pub mod Calls
+pub mod Ledgers
 pub mod Outcomes
+pub mod Promise
 pub mod Regions
 pub mod Requests
 pub mod Runs
 pub mod Solving
+pub mod Standing
+pub mod Walks
