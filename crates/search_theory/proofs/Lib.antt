@@ -1,0 +1,4 @@
+pub mod Cases
+pub mod Classifying
+pub mod Readings
+pub mod Refining

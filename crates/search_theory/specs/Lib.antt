@@ -2,6 +2,7 @@ pub mod Calls
 pub mod Ledgers
 pub mod Outcomes
 pub mod Promise
+pub mod RegionLaws
 pub mod Regions
 pub mod Requests
 pub mod Runs

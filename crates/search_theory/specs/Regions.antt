@@ -67,6 +67,11 @@ abbrev pub cut-if-any : {S : Type 0} → ShapeModel S → S → Option Cut → S
 cut-if-any M s None = s
 cut-if-any M s (Some t) = M .cut s t
 
+-- what all rules say of the points within a reading
+abbrev pub judged : {R : Type 0} → RuleModel R → List R → Reading → Verdict
+judged K [] g = All
+judged K (r ∷ rs) g = both (K .judge r g) (judged K rs g)
+
 module _ {S R : Type 0} (M : ShapeModel S) (K : RuleModel R) where
   -- cut i of a rule, proposed on a fresh reading; a region that is not open stays as it is
   abbrev pub tighten : R → ℕ → S → S
@@ -91,11 +96,6 @@ module _ {S R : Type 0} (M : ShapeModel S) (K : RuleModel R) where
   unfoldable pub refine : List R → S → S
   refine rs s = by-rounds 8 rs s
 
-  -- what all rules say of the points within a reading
-  abbrev pub judged : List R → Reading → Verdict
-  judged [] g = All
-  judged (r ∷ rs) g = both (K .judge r g) (judged rs g)
-
   -- what becomes of a refined region
   abbrev pub classify : List R → S → Fate
-  classify rs s = cond (is-void (M .extent s)) Dropped (fate-by (judged rs (read M s)) (M .offer s))
+  classify rs s = cond (is-void (M .extent s)) Dropped (fate-by (judged K rs (read M s)) (M .offer s))
