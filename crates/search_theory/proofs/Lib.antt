@@ -1,4 +1,6 @@
 pub mod Cases
 pub mod Classifying
+pub mod Counting
 pub mod Readings
 pub mod Refining
+pub mod Walking

@@ -5,6 +5,7 @@ pub mod Promise
 pub mod RegionLaws
 pub mod Regions
 pub mod Requests
+pub mod RunLaws
 pub mod Runs
 pub mod Solving
 pub mod Standing
