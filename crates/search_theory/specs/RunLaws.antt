@@ -1,14 +1,12 @@
 -- What a run means, in terms of the regions that wait and those handed out, and of the points that they hold. Assumes nothing.
-use Prim.Native.Nat.{ℕ, _+_, _-_, _<_, _≤_}
+use Prim.Native.Nat.{ℕ, _+_, _<_, _≤_}
 use mathlib.Core.Bool.{Bool, true, false}
 use mathlib.Core.List.{List, [], _∷_, _++_, reverse}
 use mathlib.Core.Logic.{_≢_, _⊎_, _↔_}
 use mathlib.Core.Path.{_≡_}
 use lib.IntN.{ℤ}
 use lib.ListN.{length, take, drop}
-use Rattle.std.specs.Finite.{nth}
 use Rattle.std.specs.shelf.Lists.{All}
-use Rattle.std.specs.declared.option.Option.the-variants.{Some}
 use Rattle.std.specs.declared.result.Result.the-variants.{Ok}
 use Rattle.interface.specs.declared.point.Point.{Point}
 use Rattle.interface.specs.Points.{values-of}
@@ -63,7 +61,7 @@ given r = take (r .report .count) (r .out-after)
 module _ {S R : Type 0} (M : ShapeModel S) (K : RuleModel R) where
   -- the last waiting region will have this fate
   abbrev pub Next-is : List R → List S → Fate → Type 0
-  Next-is rs ws f = (s : S) × (nth ws (length ws - 1) ≡ Some s) × (classify M K rs (refine M K rs s) ≡ f)
+  Next-is rs ws f = (s : S) × ((under : List S) × (ws ≡ under ++ s ∷ [])) × (classify M K rs (refine M K rs s) ≡ f)
 
   -- when a run ends how
   pub record Outcomes (r : Runs S R) : Type 0 where
