@@ -5,6 +5,7 @@ use mathlib.Core.List.{List, [], _∷_, _++_, map, reverse, reverseAux}
 use mathlib.Core.Path.{_≡_, refl, ap, sym, subst, _∙_}
 use lib.IntN.{ℤ}
 use native.Mathlib.Omega.{arith}
+use Rattle.std.specs.shelf.Lists.{All}
 use Rattle.std.proofs.shelf.Lists.{map-append}
 use Rattle.interface.specs.Shapes.{ShapeModel, one-if}
 use Rattle.search_theory.specs.declared.region.Region.{Region}
@@ -18,6 +19,13 @@ same-bool false false f g = refl
 pub false-if-not : (b : Bool) → (b ≡ true → ⊥) → b ≡ false
 false-if-not true f = absurd (f refl)
 false-if-not false f = refl
+
+all-onto : {A : Type 0} (P : A → Type 0) (xs ys : List A) → All P xs → All P ys → All P (reverseAux xs ys)
+all-onto P [] ys h k = k
+all-onto P (x ∷ xs) ys h k = all-onto P xs (x ∷ ys) (h .1) (h .0, k)
+
+pub all-reverse : {A : Type 0} (P : A → Type 0) (xs : List A) → All P xs → All P (reverse xs)
+all-reverse P xs h = all-onto P xs [] h tt
 
 module _ {S : Type 0} (M : ShapeModel S) (x : List ℤ) where
   pub how-many-append : (ss ts : List S) → how-many M (ss ++ ts) x ≡ how-many M ss x + how-many M ts x

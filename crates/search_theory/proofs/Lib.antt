@@ -2,7 +2,9 @@ pub mod Cases
 pub mod Classifying
 pub mod Counting
 pub mod Fronts
+pub mod Grounds
 pub mod Readings
 pub mod Refining
+pub mod RunLaws
 pub mod Running
 pub mod Walking
