@@ -3,8 +3,10 @@ pub mod Classifying
 pub mod Counting
 pub mod Fronts
 pub mod Grounds
+pub mod Invariant
 pub mod Readings
 pub mod Refining
 pub mod RunLaws
 pub mod Running
+pub mod Standing
 pub mod Walking

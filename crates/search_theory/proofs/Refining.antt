@@ -37,7 +37,7 @@ module _ {S : Type 0} {M : ShapeModel S} {P : List ℤ → Type 0} where
   narrowed-either false a b = b
 
 module _ {S R : Type 0} {M : ShapeModel S} {K : RuleModel R} (L : ShapeLaws M) (J : RuleLaws K) {P : List ℤ → Type 0} where
-  narrowed-cut : (s : S) → Made M s → (o : Option Cut) → ((t : Cut) → o ≡ Some t → (x : List ℤ) → P x → M .holds s x ≡ true → Meets x t) → Narrowed M P s (cut-if-any M s o)
+  pub narrowed-cut : (s : S) → Made M s → (o : Option Cut) → ((t : Cut) → o ≡ Some t → (x : List ℤ) → P x → M .holds s x ≡ true → Meets x t) → Narrowed M P s (cut-if-any M s o)
   narrowed-cut s m None met = narrowed-none s m
   narrowed-cut s m (Some t) met = record {
     made = by-cut m t;
