@@ -35,7 +35,7 @@ use Rattle.search_theory.proofs.Standing.{shape-of-push, shape-made, shape-n, 
 use Rattle.search_theory.proofs.Walking.{Good}
 
 -- each note is a front part of the next and of what stands
-abbrev Nested : {R : Type 0} → List R → List (List R) → Type 0
+abbrev pub Nested : {R : Type 0} → List R → List (List R) → Type 0
 Nested rs [] = Unit {0}
 Nested {R} rs (m ∷ ns) = ((t : List R) × (rs ≡ m ++ t)) × Nested m ns
 
@@ -62,7 +62,7 @@ pub record Inv {S R : Type 0} (M : ShapeModel S) (K : RuleModel R) (l : Ledger S
   pub need : l .search .phase ≡ Searching → l .search .need ≡ 1 + M .halvings (shape-of M K (l .home) (l .standing))
 
 -- a world with another solver and other slices
-abbrev world : {S R : Type 0} → Solving S → List R → List (Checkpoint S) → List S → World S R
+abbrev pub world : {S R : Type 0} → Solving S → List R → List (Checkpoint S) → List S → World S R
 world s rules checkpoints stack = record { solver = s; rules = rules; checkpoints = checkpoints; stack = stack }
 
 module _ {S R : Type 0} {M : ShapeModel S} {K : RuleModel R} (L : ShapeLaws M) (J : RuleLaws K) where

@@ -7,6 +7,7 @@ pub mod Invariant
 pub mod Readings
 pub mod Refining
 pub mod RunLaws
+pub mod RunKept
 pub mod Running
 pub mod Standing
 pub mod Walking
