@@ -3,7 +3,9 @@ pub mod Classifying
 pub mod Counting
 pub mod Fronts
 pub mod Grounds
+pub mod Histories
 pub mod Invariant
+pub mod Promise
 pub mod Readings
 pub mod Refining
 pub mod RunLaws

@@ -88,7 +88,7 @@ module _ {S R : Type 0} {M : ShapeModel S} {K : RuleModel R} (L : ShapeLaws M) (
             λ z. t .of-found .1 (⊎-elim (λ a. inl (d .1 a)) inr (one-filled (l .search .regions .handed) _ (λ y. z (t .of-out ∙ y)))),
           )
 
-      inv-by : Inv M K (ledger-by (l .standing)) (world-by (l .standing))
+      pub inv-by : Inv M K (ledger-by (l .standing)) (world-by (l .standing))
       inv-by = record {
         passes = inv .passes;
         ties = record {
