@@ -5,6 +5,7 @@ pub mod Fronts
 pub mod Grounds
 pub mod Histories
 pub mod Invariant
+pub mod Limits
 pub mod Promise
 pub mod Readings
 pub mod Refining

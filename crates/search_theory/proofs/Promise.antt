@@ -31,7 +31,7 @@ use Rattle.search_theory.specs.declared.request.Request.{Request}
 use Rattle.search_theory.specs.declared.request.Request.the-variants.{Run}
 use Rattle.search_theory.specs.Calls.{run-call, run-grounds, at-hand, after-run}
 use Rattle.search_theory.specs.Ledgers.{Ledger, History, noted}
-use Rattle.search_theory.specs.Promise.{Front, Fits, Called, called, Kept, Run-with}
+use Rattle.search_theory.specs.Promise.{Front, Fits, Called, called, Kept, Run-with, Promise}
 use Rattle.search_theory.specs.Requests.{World, whole, replied, answered}
 use Rattle.search_theory.specs.RunLaws.{All-made, Room}
 use Rattle.search_theory.specs.Runs.{Ended, run-from, report-of}
@@ -41,8 +41,9 @@ use Rattle.search_theory.proofs.Cases.{err≢ok}
 use Rattle.search_theory.proofs.Counting.{all-reverse}
 use Rattle.search_theory.proofs.Fronts.{front-lent}
 use Rattle.search_theory.proofs.Grounds.{none-hold, ok-same}
-use Rattle.search_theory.proofs.Histories.{inv-called, searching-if}
+use Rattle.search_theory.proofs.Histories.{inv-called, inv-history, searching-if}
 use Rattle.search_theory.proofs.Invariant.{Inv}
+use Rattle.search_theory.proofs.Limits.{kept-limits}
 use Rattle.search_theory.proofs.RunKept.{the-run, tied-after, rules-stand, inv-by, cover, sound, found-truly}
 use Rattle.search_theory.proofs.RunLaws.{run-laws}
 use Rattle.search_theory.proofs.Running.{Ending}
@@ -125,3 +126,10 @@ module _ {S R : Type 0} {M : ShapeModel S} {K : RuleModel R} (L : ShapeLaws M) (
         truthful-found = λ p r. kept-if q p r .1;
         stack-suffices = λ ample p r. kept-if q p r .2 ample;
       }
+
+-- the induction and both parts
+module _ {S R : Type 0} {M : ShapeModel S} {K : RuleModel R} (L : ShapeLaws M) (J : RuleLaws K) where
+  pub promised : Promise M K
+  promised l w rest more deep h out q =
+      let inv = inv-history L J h in
+      (kept L J l w rest more deep inv out q, λ exact. kept-limits L J exact l w rest more deep inv out q)
