@@ -7,6 +7,7 @@ pub mod Histories
 pub mod Invariant
 pub mod Limits
 pub mod Promise
+pub mod Portions
 pub mod Readings
 pub mod Refining
 pub mod RunLaws
