@@ -1,0 +1,3 @@
+pub mod First
+pub mod Lowers
+pub mod Places
