@@ -1,0 +1,4 @@
+use Rattle.octagon.proofs.shape.OctagonShape.the-impl.Needs as need
+
+pub laws-law : need.laws-law
+laws-law = ?h
