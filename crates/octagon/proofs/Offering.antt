@@ -41,7 +41,7 @@ pub bounds-more : (f : ℕ → ℤ) (a : ℤ) (n : ℕ) → maxZ (folded maxZ a 
 bounds-more f a n = sym (ap (folded maxZ a) (map-counting-more f 0 n n (omega arith)) ∙ folded-push maxZ a (map f (counting 0 n)) (f n))
 
 -- functions that agree below n
-map-same : (f g : ℕ → ℤ) (a n : ℕ) → ((k : ℕ) → k < a + n → f k ≡ g k) → map f (counting a n) ≡ map g (counting a n)
+pub map-same : {X : Type 0} (f g : ℕ → X) (a n : ℕ) → ((k : ℕ) → k < a + n → f k ≡ g k) → map f (counting a n) ≡ map g (counting a n)
 map-same f g a zero h = refl
 map-same f g a (suc n) h = let e = h a (omega arith) in let r = map-same f g (a + 1) n (λ k l. h k (omega arith)) in λ i. e i ∷ r i
 
