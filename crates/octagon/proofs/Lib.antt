@@ -4,3 +4,4 @@ pub mod Wrapping
 pub mod Taking
 pub mod Holding
 pub mod Widths
+pub mod Splitting
