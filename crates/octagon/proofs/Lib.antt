@@ -5,3 +5,6 @@ pub mod Taking
 pub mod Holding
 pub mod Widths
 pub mod Splitting
+pub mod Made
+pub mod Facts
+pub mod Laws

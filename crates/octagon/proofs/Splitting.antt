@@ -182,13 +182,13 @@ module _ (h : Home) (ts : List Cut) (s : Octagon) (O : Octagon-of h ts s) where
     abbrev wide-m : ℤ
     wide-m = middle-at (limit h ts) (widest-at (limit h ts))
 
-    W : Wide h (O .passes) ts wide-k wide-m
+    abbrev W : Wide h (O .passes) ts wide-k wide-m
     W = wide h (O .passes) ts e
 
-    pub lower-split : Cut
+    unfoldable pub lower-split : Cut
     lower-split = lower-cut h (O .passes) ts wide-k wide-m W
 
-    pub upper-split : Cut
+    unfoldable pub upper-split : Cut
     upper-split = upper-cut h (O .passes) ts wide-k wide-m W
 
     pub lower-is : lower-of s ≡ cut-to s (lower-split .p) (lower-split .q) (lower-split .c)
