@@ -8,3 +8,4 @@ pub mod Splitting
 pub mod Made
 pub mod Facts
 pub mod Laws
+pub mod Defined

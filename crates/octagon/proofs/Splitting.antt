@@ -85,16 +85,16 @@ module _ (h : Home) (ok : Passes h) (ts : List Cut) where
               }
 
   module _ (k : ℕ) (m : ℤ) (W : Wide k m) where
-    lower-bound : Small 2000000 (up-to m)
+    pub lower-bound : Small 2000000 (up-to m)
     lower-bound = let a = W .above-low in let b = W .below-high in let c = W .small-low .0 in let d = W .small-high .1 in (omega (arith, ints), omega (arith, ints))
 
-    upper-bound : Small 2000000 (from-next m)
+    pub upper-bound : Small 2000000 (from-next m)
     upper-bound = let a = W .above-low in let b = W .below-high in let c = W .small-low .0 in let d = W .small-high .1 in (omega (arith, ints), omega (arith, ints))
 
-    pub lower-cut : Cut
+    unfoldable pub lower-cut : Cut
     lower-cut = record { p = 2 * k; q = 2 * k; c = up-to m; ok = own-valid (2 * k) (up-to m) (let r = W .room in omega arith) lower-bound }
 
-    pub upper-cut : Cut
+    unfoldable pub upper-cut : Cut
     upper-cut = record { p = 2 * k + 1; q = 2 * k + 1; c = from-next m; ok = own-valid (2 * k + 1) (from-next m) (let r = W .room in omega arith) upper-bound }
 
     -- halving leaves at most half the width

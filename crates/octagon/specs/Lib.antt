@@ -1,3 +1,4 @@
 pub mod Entries
-pub mod Octagons
 pub mod Ranges
+pub mod Octagons
+pub mod Definitions
