@@ -98,12 +98,16 @@ module _ (s : Octagon) (h : Home) (ts : List Cut) (ok : Passes h) (made : s ≡ 
     where
       some-same : (a b : Cut) → Some a ≡ Some b → a ≡ b
       some-same a b e = cc
+
       lower-found : (e : is-open (void h ts) (limit h ts) ≡ true) → Some (lower-split h ts s O e) ≡ cut-of (2 * widest-at (limit h ts)) (2 * widest-at (limit h ts)) (up-to (middle-at (limit h ts) (widest-at (limit h ts))))
       lower-found e = cut-made (2 * widest-at (limit h ts)) (2 * widest-at (limit h ts)) (up-to (middle-at (limit h ts) (widest-at (limit h ts)))) (up-to (middle-at (limit h ts) (widest-at (limit h ts)))) refl (lower-split h ts s O e .ok)
+
       upper-found : (e : is-open (void h ts) (limit h ts) ≡ true) → Some (upper-split h ts s O e) ≡ cut-of (2 * widest-at (limit h ts) + 1) (2 * widest-at (limit h ts) + 1) (from-next (middle-at (limit h ts) (widest-at (limit h ts))))
       upper-found e = cut-made (2 * widest-at (limit h ts) + 1) (2 * widest-at (limit h ts) + 1) (from-next (middle-at (limit h ts) (widest-at (limit h ts)))) (from-next (middle-at (limit h ts) (widest-at (limit h ts)))) refl (upper-split h ts s O e .ok)
+
       lower-at : (e : is-open (void h ts) (limit h ts) ≡ true) (t : Cut) → cut-of (2 * widest-at (limit h ts)) (2 * widest-at (limit h ts)) (up-to (middle-at (limit h ts) (widest-at (limit h ts)))) ≡ Some t → lower-of s ≡ built octagon-model h (ts ++ (t ∷ []))
       lower-at e t c = lower-is h ts s O e ∙ cut-defined (lower-split h ts s O e) ∙ ap (λ r. built octagon-model h (ts ++ (r ∷ []))) (some-same _ _ (lower-found e ∙ c))
+
       upper-at : (e : is-open (void h ts) (limit h ts) ≡ true) (t : Cut) → cut-of (2 * widest-at (limit h ts) + 1) (2 * widest-at (limit h ts) + 1) (from-next (middle-at (limit h ts) (widest-at (limit h ts)))) ≡ Some t → upper-of s ≡ built octagon-model h (ts ++ (t ∷ []))
       upper-at e t c = upper-is h ts s O e ∙ cut-defined (upper-split h ts s O e) ∙ ap (λ r. built octagon-model h (ts ++ (r ∷ []))) (some-same _ _ (upper-found e ∙ c))
 
@@ -112,19 +116,26 @@ ranges-are-those-of-limits h ts ok k = (on, off)
   where
     s : Octagon
     s = built octagon-model h ts
+
     ends : limit-at s (2 * k + 1) (2 * k + 1) ≡ limit h ts (2 * k + 1) (2 * k + 1)
     ends = limit-is h ts (built octagon-model h ts) (built-of h ok ts) (2 * k + 1) (2 * k + 1)
+
     tops : limit-at s (2 * k) (2 * k) ≡ limit h ts (2 * k) (2 * k)
     tops = limit-is h ts (built octagon-model h ts) (built-of h ok ts) (2 * k) (2 * k)
+
     below : k < 8 → range-of octagon-model s k ≡ (low-at (limit h ts) k, high-at (limit h ts) k)
     below b = cond-true (ltb k 8) _ (pos 0, pos 0) (lt-ltb k 8 b) ∙ (λ i. (negℤ (half (ends i)), half (tops i)))
+
     on : k < h .n → range-of octagon-model s k ≡ (low-at (limit h ts) k, high-at (limit h ts) k)
     on b = below (let n = settings-bounds h ok .1 in omega arith)
+
     zeros : h .n ≤ k → _≡_ {A = ℤ × ℤ} (low-at (limit h ts) k, high-at (limit h ts) k) (pos 0, pos 0)
     zeros b = let e = limit-off h ts (2 * k) (2 * k) (inl (omega arith)) in let f = limit-off h ts (2 * k + 1) (2 * k + 1) (inl (omega arith)) in λ i. (negℤ (half (f i)), half (e i))
+
     by : h .n ≤ k → (k < 8) ⊎ (8 ≤ k) → range-of octagon-model s k ≡ (pos 0, pos 0)
     by a (inl b) = below b ∙ zeros a
     by a (inr b) = cond-false (ltb k 8) _ (pos 0, pos 0) (le-ltb k 8 b)
+
     off : h .n ≤ k → range-of octagon-model s k ≡ (pos 0, pos 0)
     off b = by b (cases-lt k 8)
 
@@ -143,6 +154,7 @@ limits-tell-apart s t m k n e same =
   where
     size : (u : Octagon) → Made octagon-model u → length (u .limits) ≡ 256
     size u d = made-of d .2 .size
+
     voids : (v w a b : Bool) → cond v Void (cond a Lone Open) ≡ cond w Void (cond b Lone Open) → v ≡ w
     voids true true a b f = refl
     voids false false a b f = refl
@@ -150,8 +162,10 @@ limits-tell-apart s t m k n e same =
     voids true false a false f = absurd (let z : _≡_ {A = ℕ} 0 1 = cc in omega arith)
     voids false true true b f = absurd (let z : _≡_ {A = ℕ} 0 1 = cc in omega arith)
     voids false true false b f = absurd (let z : _≡_ {A = ℕ} 0 1 = cc in omega arith)
+
     read : (u : Octagon) (p q : ℕ) → p < 16 → q < 16 → limit-at u p q ≡ at (u .limits) p q
     read u p q a b = cond-true _ _ (pos 0) (and-from (ltb p 16) (ltb q 16) (lt-ltb p 16 a) (lt-ltb q 16 b))
+
     entries : (i : ℕ) → i < 256 → getD (s .limits) i (pos 0) ≡ getD (t .limits) i (pos 0)
     entries i b =
         let p = i / 16 in

@@ -87,8 +87,8 @@ module _ (h : Home) (ts : List Cut) (s : Octagon) (O : Octagon-of h ts s) where
       record {
         sound = sym (O .same-void) ∙ r .0;
         level = by-node (λ p. (limit h ts p p +ℤ limit h ts (opp p) (opp p)) ≡ pos 0) (h .n)
-          (λ k b. subst (λ q. (limit h ts (2 * k) (2 * k) +ℤ limit h ts q q) ≡ pos 0) (let z : 2 * k + 1 ≡ opp (2 * k) = omega arith in z) (both a k b))
-          (λ k b. subst (λ q. (limit h ts (2 * k + 1) (2 * k + 1) +ℤ limit h ts q q) ≡ pos 0) (let z : 2 * k ≡ opp (2 * k + 1) = omega arith in z) (let z = both a k b in omega (arith, ints)));
+            (λ k b. subst (λ q. (limit h ts (2 * k) (2 * k) +ℤ limit h ts q q) ≡ pos 0) (let z : 2 * k + 1 ≡ opp (2 * k) = omega arith in z) (both a k b))
+            (λ k b. subst (λ q. (limit h ts (2 * k + 1) (2 * k + 1) +ℤ limit h ts q q) ≡ pos 0) (let z : 2 * k ≡ opp (2 * k + 1) = omega arith in z) (let z = both a k b in omega (arith, ints)));
       }
     where
       both : all-single (widths (limit h ts)) ≡ true → (k : ℕ) → k < h .n → (limit h ts (2 * k) (2 * k) +ℤ limit h ts (2 * k + 1) (2 * k + 1)) ≡ pos 0
@@ -207,14 +207,14 @@ module _ (h : Home) (ts : List Cut) (s : Octagon) (O : Octagon-of h ts s) where
         by (inl f) =
             let w = holds-decides h ts s O x .0 f in
             by-ltZ m (value x (2 * k))
-              (λ a. counted x false true true
-                (lower-not x (λ u. let c = lower-met h (O .passes) ts k m W x (w .0 .0) (meets-last x ts (lower-split h ts s O e) (u .1)) in omega (arith, ints)))
-                (upper-holds x .1 (w .0, meets-push x ts (upper-split h ts s O e) (w .1) (meets-upper h (O .passes) ts k m W x (omega (arith, ints)))))
-                f refl)
-              (λ a. counted x true false true
-                (lower-holds x .1 (w .0, meets-push x ts (lower-split h ts s O e) (w .1) (meets-lower h (O .passes) ts k m W x a)))
-                (upper-not x (λ u. let c = upper-met h (O .passes) ts k m W x (w .0 .0) (meets-last x ts (upper-split h ts s O e) (u .1)) in omega (arith, ints)))
-                f refl)
+            (λ a. counted x false true true
+            (lower-not x (λ u. let c = lower-met h (O .passes) ts k m W x (w .0 .0) (meets-last x ts (lower-split h ts s O e) (u .1)) in omega (arith, ints)))
+            (upper-holds x .1 (w .0, meets-push x ts (upper-split h ts s O e) (w .1) (meets-upper h (O .passes) ts k m W x (omega (arith, ints)))))
+            f refl)
+            (λ a. counted x true false true
+            (lower-holds x .1 (w .0, meets-push x ts (lower-split h ts s O e) (w .1) (meets-lower h (O .passes) ts k m W x a)))
+            (upper-not x (λ u. let c = upper-met h (O .passes) ts k m W x (w .0 .0) (meets-last x ts (upper-split h ts s O e) (u .1)) in omega (arith, ints)))
+            f refl)
 
     pub lower-lowers : halvings-of (widths (at (lower-of s .limits))) < halvings-of (widths (at (s .limits)))
     unfolding lower-split

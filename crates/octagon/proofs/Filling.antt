@@ -72,8 +72,10 @@ module _ (before : List ℤ) (a b : ℕ) (c : ℤ) where
     where
       read : (f : ℕ → ℤ) (zs : List ℤ) → zs ≡ listed f 16 → (j : ℕ) → j < 16 → getD zs j (pos 0) ≡ f j
       read f zs e j b = ap (λ l. getD l j (pos 0)) e ∙ getD-listed f 16 j b
+
       same : lowest (at xs p q) (getD by-b i (pos 0)) (getD to-b q (pos 0)) (getD by-a i (pos 0)) (getD to-a q (pos 0)) (getD mid i (pos 0)) (getD mid q (pos 0)) ≡ lowest (at xs p q) (way before a b c i) (at before b q) (way before b a c i) (at before a q) (halved before a b c i) (halved before a b c q)
       same = let e₁ = read (way before a b c) by-b xb i on in let e₂ = read (at before b) to-b eb q l in let e₃ = read (way before b a c) by-a ya i on in let e₄ = read (at before a) to-a ea q l in let e₅ = read (halved before a b c) mid em i on in let e₆ = read (halved before a b c) mid em q l in λ t. lowest (at xs p q) (e₁ t) (e₂ t) (e₃ t) (e₄ t) (e₅ t) (e₆ t)
+
       by : (p ≡ i) ⊎ (p ≡ i → ⊥) → (q < m) ⊎ (m ≤ q) → at ys p q ≡ cond (ltb p (i + 1) && ltb q m) (lowered-entry before a b c p q) (at before p q)
       by (inl r) (inl u) =
           let old : at xs p q ≡ at before p q = done p q k l ∙ cond-false _ _ _ (and-left (ltb p i) (ltb q m) (le-ltb p i (omega arith))) in

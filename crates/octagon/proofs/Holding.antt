@@ -52,8 +52,9 @@ leZ-decides a b = ((λ e. omega (arith, ints)), λ h. let e : true ≡ leZ a b =
 under-decides : (l x : List ℤ) (w : ℕ) → Decides (all-under l x w) (Under l x w)
 unfolding all-under
 under-decides l x w = (
-    (λ e p a q b. leZ-decides (value x p +ℤ value x q) (at l p q) .0 (every-decides (λ q. leZ (value x p +ℤ value x q) (at l p q)) w .0 (every-decides (row-under l x w) w .0 e p a) q b)),
-    λ u. every-decides (row-under l x w) w .1 (λ p a. every-decides (λ q. leZ (value x p +ℤ value x q) (at l p q)) w .1 (λ q b. leZ-decides (value x p +ℤ value x q) (at l p q) .1 (u p a q b))))
+  (λ e p a q b. leZ-decides (value x p +ℤ value x q) (at l p q) .0 (every-decides (λ q. leZ (value x p +ℤ value x q) (at l p q)) w .0 (every-decides (row-under l x w) w .0 e p a) q b)),
+  λ u. every-decides (row-under l x w) w .1 (λ p a. every-decides (λ q. leZ (value x p +ℤ value x q) (at l p q)) w .1 (λ q b. leZ-decides (value x p +ℤ value x q) (at l p q) .1 (u p a q b))),
+)
 
 -- narrowing keeps what has 32 bits
 narrow-small : (z : ℤ) → Small 1000000000 z → narrow z ≡ z
@@ -79,6 +80,7 @@ module _ (h : Home) (ts : List Cut) (s : Octagon) (O : Octagon-of h ts s) where
     where
       same : s .n ≡ h .n
       same = O .same-n
+
       to : holds-at s x ≡ true → Within h ts x
       to e =
           let a = and-parts (not (s .void)) (eqb (length x) (s .n) && all-under (s .limits) x (2 * s .n)) e in
@@ -89,6 +91,7 @@ module _ (h : Home) (ts : List Cut) (s : Octagon) (O : Octagon-of h ts s) where
         where
           below : length x ≡ s .n → Under (s .limits) x (2 * s .n) → Below (limit h ts) x
           below l u p q a b = let e = eight in subst (λ z. (value x p +ℤ value x q) ≤ℤ z) (O .entries p q (omega arith) (omega arith)) (u p (omega arith) q (omega arith))
+
       from : Within h ts x → holds-at s x ≡ true
       from w = by (cases-bool (void h ts))
         where

@@ -68,20 +68,27 @@ module _ (h : Home) (ok : Passes h) (ts : List Cut) where
         where
           apart : (w : ℕ) (l u : ℤ) → 0 < w → pos w ≡ (u -ℤ l) → (l +ℤ pos 1) ≤ℤ u
           apart w l u a e = omega (arith, ints)
+
           small-half : (k : ℕ) → Small 1000000 (low-at (limit h ts) k) × Small 1000000 (high-at (limit h ts) k)
           small-half k =
               let x = limit-small h ok ts (2 * k) (2 * k) in
               let y = limit-small h ok ts (2 * k + 1) (2 * k + 1) in
               ((omega (arith, ints, half-is (limit h ts (2 * k + 1) (2 * k + 1))), omega (arith, ints, half-is (limit h ts (2 * k + 1) (2 * k + 1)))), (omega (arith, ints, half-is (limit h ts (2 * k) (2 * k))), omega (arith, ints, half-is (limit h ts (2 * k) (2 * k)))))
+
           halves : (k : ℕ) → void h ts ≡ false → k < 8 → k < h .n → (l u : ℤ) → low-at (limit h ts) k ≡ l → high-at (limit h ts) k ≡ u → (l +ℤ pos 1) ≤ℤ u → Small 1000000 (low-at (limit h ts) k) × Small 1000000 (high-at (limit h ts) k) → Wide k (middle-at (limit h ts) k)
           halves k v r b l u e f a s =
               let g : middle-at (limit h ts) k ≡ half (l +ℤ u) = ap₂ (λ x y. half (x +ℤ y)) e f in
               let i = half-is (l +ℤ u) in
               record {
-                sound = v; on = b; room = r;
-                above-low = omega (arith, ints, i); below-high = omega (arith, ints, i);
-                middle-low = omega (arith, ints, i); middle-high = omega (arith, ints, i);
-                small-low = s .0; small-high = s .1;
+                sound = v;
+                on = b;
+                room = r;
+                above-low = omega (arith, ints, i);
+                below-high = omega (arith, ints, i);
+                middle-low = omega (arith, ints, i);
+                middle-high = omega (arith, ints, i);
+                small-low = s .0;
+                small-high = s .1;
               }
 
   module _ (k : ℕ) (m : ℤ) (W : Wide k m) where

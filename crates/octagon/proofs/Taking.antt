@@ -153,8 +153,10 @@ module _ (h : Home) (ts : List Cut) (s : Octagon) (O : Octagon-of h ts s) where
       where
         B : Bounds t
         B = bounds-of t
+
         by-limit : (t .p < 2 * h .n) → (t .q < 2 * h .n) → s .void ≡ false → leZ (limit-at s (t .p) (t .q)) (t .c) ≡ true → Same h (ts ++ (t ∷ [])) h ts
         by-limit a b v f = one .idle (sym (O .same-void) ∙ v) a b (let g = limit-is (t .p) (t .q) in omega (arith, ints))
+
         by-nodes : s .void ≡ false → (t .p < 2 * h .n) ⊎ (2 * h .n ≤ t .p) → (t .q < 2 * h .n) ⊎ (2 * h .n ≤ t .q) → Same h (ts ++ (t ∷ [])) h ts
         by-nodes v (inr a) b = one .off-line (inl a)
         by-nodes v (inl a) (inr b) = one .off-line (inr b)
@@ -168,6 +170,7 @@ module _ (h : Home) (ts : List Cut) (s : Octagon) (O : Octagon-of h ts s) where
                 let x = lt-leb (min 16 (2 * s .n)) (t .p) (omega arith) in
                 let y = lt-leb (min 16 (2 * s .n)) (t .q) (omega arith) in
                 sym (ap (λ b. b || (leb (min 16 (2 * s .n)) (t .p) || (leb (min 16 (2 * s .n)) (t .q) || leZ (limit-at s (t .p) (t .q)) (t .c)))) v ∙ ap (λ b. b || (leb (min 16 (2 * s .n)) (t .q) || leZ (limit-at s (t .p) (t .q)) (t .c))) x ∙ ap (λ b. b || leZ (limit-at s (t .p) (t .q)) (t .c)) y) ∙ f
+
         by-void : (s .void ≡ true) ⊎ (s .void ≡ false) → Same h (ts ++ (t ∷ [])) h ts
         by-void (inl v) = still-void (sym (O .same-void) ∙ v)
         by-void (inr v) = by-nodes v (cases-lt (t .p) (2 * h .n)) (cases-lt (t .q) (2 * h .n))
@@ -200,6 +203,7 @@ module _ (h : Home) (ts : List Cut) (s : Octagon) (O : Octagon-of h ts s) where
       where
         P : Octagon → Type 0
         P = Octagon-of h (ts ++ (t ∷ []))
+
         by : (idle s (t .p) (t .q) (t .c) ≡ true) ⊎ (idle s (t .p) (t .q) (t .c) ≡ false) → (unmet s (t .p) (t .q) (t .c) ≡ true) ⊎ (unmet s (t .p) (t .q) (t .c) ≡ false) → Octagon-of h (ts ++ (t ∷ [])) (cutting s (t .p) (t .q) (t .c))
         by (inl i) u = subst (Octagon-of h (ts ++ (t ∷ []))) (sym (cond-true (idle s (t .p) (t .q) (t .c)) s _ i)) (kept (idle-cut i))
         by (inr i) (inl u) =

@@ -76,7 +76,10 @@ fn way_at(limits: &[i32; 256], a: usize, b: usize, c: i32, i: usize) -> i32
     requires { ⌜ a < 16 ⌝ ∗ ⌜ b < 16 ⌝ ∗ ⌜ i < 16 ⌝ }
     ensures { λ r. ⌜ r ≡ way (now (limits .entry)) a b c i ⌝ }
 {
-    lesser(sum(limits[16 * a + i], c), sum(sum(limits[16 * b + i], c), sum(limits[16 * a + a], c)))
+    lesser(
+        sum(limits[16 * a + i], c),
+        sum(sum(limits[16 * b + i], c), sum(limits[16 * a + a], c)),
+    )
 }
 
 fn ways(limits: &[i32; 256], a: usize, b: usize, c: i32) -> [i32; 16]
@@ -94,11 +97,24 @@ fn halved_at(limits: &[i32; 256], a: usize, b: usize, i: usize, x: i32, y: i32) 
     requires { ⌜ a < 16 ⌝ ∗ ⌜ b < 16 ⌝ ∗ ⌜ i < 16 ⌝ }
     ensures { λ r. ⌜ r ≡ half (minZ (at (now (limits .entry)) i i) (over-cut x (at (now (limits .entry)) b i) y (at (now (limits .entry)) a i))) ⌝ }
 {
-    half_of(shortest_of(limits[16 * i + i], x, limits[16 * b + i], y, limits[16 * a + i]))
+    half_of(shortest_of(
+        limits[16 * i + i],
+        x,
+        limits[16 * b + i],
+        y,
+        limits[16 * a + i],
+    ))
 }
 
 // Half of each entry of the diagonal after the cut, which is twice a half or once over the cut.
-fn halves(limits: &[i32; 256], a: usize, b: usize, c: i32, by_b: &[i32; 16], by_a: &[i32; 16]) -> [i32; 16]
+fn halves(
+    limits: &[i32; 256],
+    a: usize,
+    b: usize,
+    c: i32,
+    by_b: &[i32; 16],
+    by_a: &[i32; 16],
+) -> [i32; 16]
     requires { ⌜ a < 16 ⌝ ∗ ⌜ b < 16 ⌝ ∗ ⌜ now «by_b» ≡ listed (way (now limits) a b c) 16 ⌝ ∗ ⌜ now «by_a» ≡ listed (way (now limits) b a c) 16 ⌝ }
     ensures { λ r. ⌜ r ≡ listed (halved (now (limits .entry)) a b c) 16 ⌝ }
 {
@@ -110,7 +126,17 @@ fn halves(limits: &[i32; 256], a: usize, b: usize, c: i32, by_b: &[i32; 16], by_
 }
 
 // Lowers the first w entries of row i.
-fn lower_row(limits: &mut [i32; 256], i: usize, w: usize, x: i32, to_b: &[i32; 16], y: i32, to_a: &[i32; 16], h: i32, halves: &[i32; 16])
+fn lower_row(
+    limits: &mut [i32; 256],
+    i: usize,
+    w: usize,
+    x: i32,
+    to_b: &[i32; 16],
+    y: i32,
+    to_a: &[i32; 16],
+    h: i32,
+    halves: &[i32; 16],
+)
     requires { ⌜ i < 16 ⌝ ∗ ⌜ w ≤ 16 ⌝ }
     ensures { λ _. ⌜ Row-lowered (now (limits .exit)) (now (limits .entry)) i w (λ q e. lowest e x (getD (now («to_b» .entry)) q (pos 0)) y (getD (now («to_a» .entry)) q (pos 0)) h (getD (now (halves .entry)) q (pos 0))) ⌝ }
 {
@@ -131,6 +157,16 @@ pub(crate) fn lower(limits: &mut [i32; 256], n: u8, a: usize, b: usize, c: i32)
     let middle = halves(limits, a, b, c, &by_b, &by_a);
     let w = nodes(n);
     for i in 0..w {
-        lower_row(limits, i, w, by_b[i], &to_b, by_a[i], &to_a, middle[i], &middle);
+        lower_row(
+            limits,
+            i,
+            w,
+            by_b[i],
+            &to_b,
+            by_a[i],
+            &to_a,
+            middle[i],
+            &middle,
+        );
     }
 }

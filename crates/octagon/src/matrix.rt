@@ -6,7 +6,9 @@ ghost use mir.Syntax.{w32};
 ghost use Rattle.std.specs.shelf.Signed.{wrapped};
 ghost use Rattle.octagon.specs.Entries.{plus, at, tabled, top, home-limit};
 ghost use Rattle.octagon.specs.Octagons.{started, limit-at, voided, idle, unmet, cutting, cut-to};
-use super::lowering::{lower, nodes, sum};
+use super::lowering::lower;
+use super::lowering::nodes;
+use super::lowering::sum;
 use interface::home::Home;
 use interface::node::opposite;
 
@@ -68,6 +70,12 @@ impl Octagon {
         }
     }
 
+    pub(crate) fn settings(&self) -> u8
+        ensures { λ r. ⌜ r ≡ now (self .entry) .n ⌝ }
+    {
+        self.n
+    }
+
     pub(crate) fn limit_of(&self, p: u8, q: u8) -> i32
         ensures { λ r. ⌜ r ≡ limit-at (now (self .entry)) p q ⌝ }
     {
@@ -82,7 +90,10 @@ impl Octagon {
     fn is_idle(&self, p: u8, q: u8, c: i32) -> bool
         ensures { λ r. ⌜ r ≡ idle (now (self .entry)) p q c ⌝ }
     {
-        self.void || nodes(self.n) <= p as usize || nodes(self.n) <= q as usize || self.limit_of(p, q) <= c
+        self.void
+            || nodes(self.n) <= p as usize
+            || nodes(self.n) <= q as usize
+            || self.limit_of(p, q) <= c
     }
 
     // Whether no point meets the cut.
@@ -105,7 +116,14 @@ impl Octagon {
             self.limits = [0; 256];
             return;
         }
-        lower(&mut self.limits, self.n, opposite(p) as usize, opposite(q) as usize, c);
+        let n = self.n;
+        lower(
+            &mut self.limits,
+            n,
+            opposite(p) as usize,
+            opposite(q) as usize,
+            c,
+        );
     }
 
     pub(crate) fn cut_by(&mut self, p: u8, q: u8, c: i32)

@@ -23,7 +23,11 @@ fn value_at(values: &[i32; 8], p: usize) -> i64
     ensures value { λ r. ⌜ r ≡ value (now (values .entry)) p ⌝ }
     ensures bound { λ r. ⌜ negℤ (pos 2147483648) ≤ℤ r ⌝ ∗ ⌜ r ≤ℤ pos 2147483648 ⌝ }
 {
-    if p % 2 == 0 { values[p / 2] as i64 } else { -(values[p / 2] as i64) }
+    if p % 2 == 0 {
+        values[p / 2] as i64
+    } else {
+        -(values[p / 2] as i64)
+    }
 }
 
 fn is_under(limits: &[i32; 256], values: &[i32; 8], p: usize, q: usize) -> bool
@@ -72,7 +76,11 @@ fn all_are_under(limits: &[i32; 256], values: &[i32; 8], w: usize) -> bool
 fn narrowed(z: i64) -> i32
     ensures { λ r. ⌜ r ≡ narrow z ⌝ }
 {
-    if -2_147_483_648 <= z && z <= 2_147_483_647 { z as i32 } else { 0 }
+    if -2_147_483_648 <= z && z <= 2_147_483_647 {
+        z as i32
+    } else {
+        0
+    }
 }
 
 // The lower bound that node p, of an earlier setting, puts on setting k.

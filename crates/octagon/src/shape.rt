@@ -31,7 +31,7 @@ pub impl Shape for Octagon as OctagonShape {
         ensures value { λ r. ⌜ r ≡ octagon-model .n (now (self .entry)) ⌝ }
         ensures made { λ r. ⌜ For-made (now (self .entry)) (λ h ts. r ≡ h .n) ⌝ }
     {
-        self.n
+        self.settings()
     }
 
     fn cut(&mut self, cut: Cut)

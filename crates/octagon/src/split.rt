@@ -10,7 +10,9 @@ ghost use Rattle.octagon.specs.Octagons.{lower-of, upper-of};
 ghost use Rattle.octagon.specs.Ranges.{low-at, high-at, width-at, widths, extent-by, is-open, widest-at, middle-at, up-to, from-next};
 use super::lowering::half_of;
 use super::matrix::Octagon;
-use halving::{halvings, single, widest};
+use halving::halvings;
+use halving::single;
+use halving::widest;
 use interface::extent::Extent;
 
 fn high(limits: &[i32; 256], k: usize) -> i32
@@ -91,7 +93,11 @@ impl Octagon {
         if self.void {
             return Extent::Void;
         }
-        if single(&all_widths(&self.limits)) { Extent::Lone } else { Extent::Open }
+        if single(&all_widths(&self.limits)) {
+            Extent::Lone
+        } else {
+            Extent::Open
+        }
     }
 
     // The values up to the middle of the widest range.
@@ -113,7 +119,11 @@ impl Octagon {
         let mut part = *self;
         if self.is_open() {
             let k = self.widest_setting();
-            part.cut_by(2 * k + 1, 2 * k + 1, above_middle(middle(&self.limits, k as usize)));
+            part.cut_by(
+                2 * k + 1,
+                2 * k + 1,
+                above_middle(middle(&self.limits, k as usize)),
+            );
         }
         part
     }

@@ -26,8 +26,8 @@ loop-i-again c =
     let y : getD (c .args .by-a .now) i (pos 0) ≡ way L b a (c .args .c) i = ap (λ l. getD l i (pos 0)) (c .pre .1 .1 .1) ∙ getD-listed (way L b a (c .args .c)) 16 i (omega arith) in
     let e = simp toZ-ofZ at (c .halved-at .ensures) in
     simp toZ-ofZ (filled-more (halved L a b (c .args .c)) 16 i (c .loop-i .all) (c .halved-at .result) (omega arith)
-      (e ∙ ap (λ u. half (minZ (at L i i) (over-cut u (at L b i) (getD (c .args .by-a .now) i (pos 0)) (at L a i)))) x ∙ ap (λ u. half (minZ (at L i i) (over-cut (way L a b (c .args .c) i) (at L b i) u (at L a i)))) y)
-      (simp toZ-ofZ at (c .loop-i .inv)))
+    (e ∙ ap (λ u. half (minZ (at L i i) (over-cut u (at L b i) (getD (c .args .by-a .now) i (pos 0)) (at L a i)))) x ∙ ap (λ u. half (minZ (at L i i) (over-cut (way L a b (c .args .c) i) (at L b i) u (at L a i)))) y)
+    (simp toZ-ofZ at (c .loop-i .inv)))
 
 pub returns : need.returns
 returns c =

@@ -27,9 +27,10 @@ loop-i-again c =
     let by-a = c .ways-by-a .result in
     let mid = c .halves-middle .result in
     let row : Row-lowered (c .lower-row .last .limits) (c .loop-i .limits) i (c .nodes-w .result) (λ q e. lowest e (getD by-b i (pos 0)) (getD (c .row-to-b .result) q (pos 0)) (getD by-a i (pos 0)) (getD (c .row-to-a .result) q (pos 0)) (getD mid i (pos 0)) (getD mid q (pos 0))) = simp toZ-ofZ at (c .lower-row .ensures) in
-    let row′ = subst (λ w. Row-lowered (c .lower-row .last .limits) (c .loop-i .limits) i w (λ q e. lowest e (getD by-b i (pos 0)) (getD (c .row-to-b .result) q (pos 0)) (getD by-a i (pos 0)) (getD (c .row-to-a .result) q (pos 0)) (getD mid i (pos 0)) (getD mid q (pos 0)))) (c .nodes-w .ensures) row in
-    (search needs,
-     simp toZ-ofZ (rows-more (c .args .limits .now) (c .args .a) (c .args .b) (c .args .c) (c .loop-i .limits) (c .lower-row .last .limits) i (min 16 (2 * c .args .n)) (c .row-to-a .result) (c .row-to-b .result) by-a by-b mid (c .row-to-a .ensures) (c .row-to-b .ensures) (simp toZ-ofZ at (c .ways-by-a .ensures)) (simp toZ-ofZ at (c .ways-by-b .ensures)) (simp toZ-ofZ at (c .halves-middle .ensures)) (omega arith) (simp toZ-ofZ at (c .loop-i .inv .1)) row′))
+    let row′ = subst (λ w. Row-lowered (c .lower-row .last .limits) (c .loop-i .limits) i w (λ q e. lowest e (getD by-b i (pos 0)) (getD (c .row-to-b .result) q (pos 0)) (getD by-a i (pos 0)) (getD (c .row-to-a .result) q (pos 0)) (getD mid i (pos 0)) (getD mid q (pos 0)))) (c .nodes-w .ensures) row in (
+      search needs,
+      simp toZ-ofZ (rows-more (c .args .limits .now) (c .args .a) (c .args .b) (c .args .c) (c .loop-i .limits) (c .lower-row .last .limits) i (min 16 (2 * c .args .n)) (c .row-to-a .result) (c .row-to-b .result) by-a by-b mid (c .row-to-a .ensures) (c .row-to-b .ensures) (simp toZ-ofZ at (c .ways-by-a .ensures)) (simp toZ-ofZ at (c .ways-by-b .ensures)) (simp toZ-ofZ at (c .halves-middle .ensures)) (omega arith) (simp toZ-ofZ at (c .loop-i .inv .1)) row′),
+    )
 
 pub returns : need.returns
 returns c =

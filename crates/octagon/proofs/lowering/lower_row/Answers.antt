@@ -19,6 +19,7 @@ loop-j-again c =
     let fe : SFits w32 (at (c .loop-j .limits) (c .args .i) (c .loop-j .j)) = search needs in
     let fa : SFits w32 (getD (c .args .to-a .now) (c .loop-j .j) (pos 0)) = search needs in
     let fb : SFits w32 (getD (c .args .to-b .now) (c .loop-j .j) (pos 0)) = search needs in
-    let fg : SFits w32 (getD (c .args .halves .now) (c .loop-j .j) (pos 0)) = search needs in
-    (length-set _ _ _ ∙ c .loop-j .inv .0,
-     simp toZ-ofZ (row-more (λ q e. lowest e (c .args .x) (getD (c .args .to-b .now) q (pos 0)) (c .args .y) (getD (c .args .to-a .now) q (pos 0)) (c .args .h) (getD (c .args .halves .now) q (pos 0))) (c .loop-j .limits) (c .args .limits .now) (c .args .i) (c .loop-j .j) (c .least-of .result) (c .loop-j .inv .0) (omega arith) (omega arith) (simp toZ-ofZ at (c .loop-j .inv .1)) (simp toZ-ofZ at (c .least-of .ensures))))
+    let fg : SFits w32 (getD (c .args .halves .now) (c .loop-j .j) (pos 0)) = search needs in (
+      length-set _ _ _ ∙ c .loop-j .inv .0,
+      simp toZ-ofZ (row-more (λ q e. lowest e (c .args .x) (getD (c .args .to-b .now) q (pos 0)) (c .args .y) (getD (c .args .to-a .now) q (pos 0)) (c .args .h) (getD (c .args .halves .now) q (pos 0))) (c .loop-j .limits) (c .args .limits .now) (c .args .i) (c .loop-j .j) (c .least-of .result) (c .loop-j .inv .0) (omega arith) (omega arith) (simp toZ-ofZ at (c .loop-j .inv .1)) (simp toZ-ofZ at (c .least-of .ensures))),
+    )
