@@ -126,15 +126,15 @@ home-alone h passes =
     (r .0, λ p q a b d. r .1 p q a b ∙ home-other h p q d)
 
 -- ---- one cut more
-meets-push : (x : List ℤ) (ts : List Cut) (t : Cut) → Meets-all x ts → Meets x t → Meets-all x (ts ++ (t ∷ []))
+pub meets-push : (x : List ℤ) (ts : List Cut) (t : Cut) → Meets-all x ts → Meets x t → Meets-all x (ts ++ (t ∷ []))
 meets-push x [] t m k = (k, tt)
 meets-push x (s ∷ ts) t m k = (m .0, meets-push x ts t (m .1) k)
 
-meets-front : (x : List ℤ) (ts : List Cut) (t : Cut) → Meets-all x (ts ++ (t ∷ [])) → Meets-all x ts
+pub meets-front : (x : List ℤ) (ts : List Cut) (t : Cut) → Meets-all x (ts ++ (t ∷ [])) → Meets-all x ts
 meets-front x [] t m = tt
 meets-front x (s ∷ ts) t m = (m .0, meets-front x ts t (m .1))
 
-meets-last : (x : List ℤ) (ts : List Cut) (t : Cut) → Meets-all x (ts ++ (t ∷ [])) → Meets x t
+pub meets-last : (x : List ℤ) (ts : List Cut) (t : Cut) → Meets-all x (ts ++ (t ∷ [])) → Meets x t
 meets-last x [] t m = m .0
 meets-last x (s ∷ ts) t m = meets-last x ts t (m .1)
 

@@ -1,0 +1,4 @@
+pub mod Entries
+pub mod Ranges
+pub mod Octagons
+pub mod Definitions
