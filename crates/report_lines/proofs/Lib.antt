@@ -1,0 +1,4 @@
+pub mod Adding
+pub mod Bounds
+pub mod Passing
+pub mod Pointed

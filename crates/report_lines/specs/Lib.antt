@@ -1,0 +1,3 @@
+pub mod Appending
+pub mod EndFrame
+pub mod RegionFrames
