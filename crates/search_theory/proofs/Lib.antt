@@ -1,0 +1,16 @@
+pub mod Cases
+pub mod Classifying
+pub mod Counting
+pub mod Fronts
+pub mod Grounds
+pub mod Histories
+pub mod Invariant
+pub mod Limits
+pub mod Promise
+pub mod Readings
+pub mod Refining
+pub mod RunLaws
+pub mod RunKept
+pub mod Running
+pub mod Standing
+pub mod Walking

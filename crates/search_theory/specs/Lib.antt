@@ -1,0 +1,12 @@
+pub mod Calls
+pub mod Ledgers
+pub mod Outcomes
+pub mod Promise
+pub mod RegionLaws
+pub mod Regions
+pub mod Requests
+pub mod RunLaws
+pub mod Runs
+pub mod Solving
+pub mod Standing
+pub mod Walks
