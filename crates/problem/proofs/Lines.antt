@@ -21,7 +21,7 @@ use Rattle.wire.specs.Readers.{left-of, advanced}
 use Rattle.wire.specs.Text.{next-line, used, next-number}
 use Rattle.problem.specs.declared.problem.Problem.{Problem}
 use Rattle.problem.specs.declared.problem.Refusal.{Refusal}
-use Rattle.problem.specs.AnyRules.{AnyRule}
+use Rattle.rules.specs.Any.{AnyRule}
 use Rattle.problem.specs.Problems.{rules-in}
 use Rattle.problem.specs.Reading.{Stated, after, if-any, placed, rule-line, stated-line, rules-from, go-on, with-rules, rules-behind, first-home, size-check, read-text, refusal}
 

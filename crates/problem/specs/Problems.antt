@@ -5,7 +5,7 @@ use Rattle.std.specs.declared.result.Result.{Result}
 use Rattle.std.specs.declared.result.Result.the-variants.{Ok, Err}
 use Rattle.problem.specs.declared.problem.Problem.{Problem}
 use Rattle.problem.specs.declared.problem.Refusal.{Refusal}
-use Rattle.problem.specs.AnyRules.{AnyRule}
+use Rattle.rules.specs.Any.{AnyRule}
 use Rattle.problem.specs.Reading.{Stated}
 
 -- the home and the rules that count

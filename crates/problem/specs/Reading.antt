@@ -24,7 +24,8 @@ use Rattle.wire.specs.HomeFrame.{read-home}
 use Rattle.wire.specs.Kinds.{next-frame}
 use Rattle.wire.specs.Text.{next-line, used, next-number, size-grounds}
 use Rattle.problem.specs.declared.problem.Refusal.{Refusal}
-use Rattle.problem.specs.AnyRules.{AnyRule, any-model, rule-of, known-kinds}
+use Rattle.rules.specs.Any.{AnyRule, any-model}
+use Rattle.problem.specs.AnyRules.{rule-of, known-kinds}
 
 -- on with what a lower layer gives, or its fault, raised
 abbrev pub after : {A B E F : Type 0} → Result A E → (E → F) → (A → Result B F) → Result B F

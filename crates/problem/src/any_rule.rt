@@ -1,9 +1,7 @@
 // The frames that a line may be, and the rule that it states.
 ghost use mathlib.Core.Path.{_≡_};
-ghost use lib.IntN.{pos};
-ghost use Rattle.rules.specs.declared.joined.Joined.the-variants.{First};
 ghost use Rattle.wire.specs.Bytes.{unhex};
-ghost use Rattle.problem.specs.AnyRules.{known-kinds, other-rule, rule-of};
+ghost use Rattle.problem.specs.AnyRules.{known-kinds, other-rule, rule-of, filler};
 use interface::home::Home;
 use rules::any::AnyRule;
 use rules::apart::ApartFrame;
@@ -60,7 +58,7 @@ pub fn read_rule(digits: &[u8]) -> AnyRule
 
 // A record to fill an array with.
 pub fn no_rule() -> AnyRule
-    ensures { λ r. ⌜ r ≡ First (record { p = 0; q = 0; c = pos 0 }) ⌝ }
+    ensures { λ r. ⌜ r ≡ filler ⌝ }
 {
     Joined::First(PairRule { p: 0, q: 0, c: 0 })
 }

@@ -1,3 +1,4 @@
+pub mod AnyLaws
 pub mod Aparts
 pub mod Joins
 pub mod Pairs

@@ -1,3 +1,4 @@
+pub mod Any
 pub mod Aparts
 pub mod Joins
 pub mod Pairs

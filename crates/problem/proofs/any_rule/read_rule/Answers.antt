@@ -4,7 +4,8 @@ use Rattle.wire.specs.Bytes.{unhex}
 use Rattle.wire.specs.Frames.{by-table}
 use Rattle.rules.specs.Pairs.{pair-codec}
 use Rattle.sum_rule.specs.Sums.{sum-codec}
-use Rattle.problem.specs.AnyRules.{AnyRule, other-rule}
+use Rattle.rules.specs.Any.{AnyRule}
+use Rattle.problem.specs.AnyRules.{other-rule}
 use Rattle.problem.proofs.FirstBytes.{neither}
 use Rattle.problem.proofs.any_rule.read_rule.Needs as need
 

@@ -1,0 +1,1 @@
+// The memory that solving a problem takes.
