@@ -37,6 +37,13 @@ fn refused(fault: SolverFault, line: u16) -> Refusal
 }
 
 impl Problem {
+    // The rules that count.
+    pub fn stated(&self) -> &[AnyRule]
+        ensures { λ r. ⌜ now r ≡ rules-in (now (self .entry)) ⌝ }
+    {
+        if self.count < 32 { &self.rules[0..self.count] } else { &self.rules }
+    }
+
     fn add(&mut self, rule: AnyRule)
         requires { ⌜ now self .count < 32 ⌝ }
         ensures { λ _. ⌜ now (self .exit) ≡ record { home = now (self .entry) .home; rules = set (now (self .entry) .rules) (now (self .entry) .count) rule; count = now (self .entry) .count + 1 } ⌝ }
