@@ -33,13 +33,17 @@ use Rattle.wire.specs.FaultLine.{fault-frame}
 abbrev pub room-in : ℕ → ℕ
 room-in size = min 16 ((size - 15) / 1882)
 
+-- n copies; shut, so that no proof writes them out
+unfoldable pub copies : {A : Type 0} → ℕ → A → List A
+copies n x = replicate n x
+
 abbrev pub no-point : Point
 no-point = record { n = 0; values = replicate 8 (pos 0) }
 
 module _ {S : Type 0} (M : ShapeModel S) where
   -- 32 places for rules, 4 for checkpoints, 169 for waiting regions
   abbrev pub memory : S → ℕ → Slices S AnyRule
-  memory s room = record { rules = replicate 32 filler; checkpoints = replicate 4 (record { shape = s; rules = 0 }); stack = replicate 169 s; out = take room (replicate 16 (record { shape = s; point = no-point })) }
+  memory s room = record { rules = copies 32 filler; checkpoints = copies 4 (record { shape = s; rules = 0 }); stack = copies 169 s; out = take room (copies 16 (record { shape = s; point = no-point })) }
 
   -- a region's lines come from its limits and its point alone
   abbrev pub frames-of : Region S → List (List ℕ)

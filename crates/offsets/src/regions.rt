@@ -12,6 +12,7 @@ use interface::reading::Reading;
 use interface::shape::Shape;
 use octagon::matrix::Octagon;
 use octagon::shape::OctagonShape;
+use problem::front::front;
 use report_lines::ending::put_end;
 use report_lines::refusal::put_refusal;
 use report_lines::region::put_region;
@@ -40,13 +41,6 @@ fn put_all(regions: &[Region<Octagon>], output: &mut [u8]) -> usize
         at = put_one(region, output, at);
     }
     at
-}
-
-// The regions at the front of the list.
-fn front(regions: &[Region<Octagon>], count: usize) -> &[Region<Octagon>]
-    ensures { λ r. ⌜ now r ≡ take count (now (regions .entry)) ⌝ }
-{
-    if count < regions.len() { &regions[0..count] } else { regions }
 }
 
 fn put_report(report: Report, regions: &[Region<Octagon>], output: &mut [u8]) -> usize

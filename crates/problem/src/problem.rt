@@ -7,6 +7,7 @@ ghost use Rattle.wire.specs.Readers.{left-of};
 ghost use Rattle.problem.specs.Problems.{rules-in, seen-by, rules-seen};
 ghost use Rattle.problem.specs.Reading.{rules-from, with-rules, read-text, refusal};
 use super::any_rule::no_rule;
+use super::front::front;
 use super::reading::first_home;
 use super::reading::size_of;
 use super::reading::stated_line;
@@ -41,7 +42,7 @@ impl Problem {
     pub fn stated(&self) -> &[AnyRule]
         ensures { λ r. ⌜ now r ≡ rules-in (now (self .entry)) ⌝ }
     {
-        if self.count < 32 { &self.rules[0..self.count] } else { &self.rules }
+        front(&self.rules, self.count)
     }
 
     fn add(&mut self, rule: AnyRule)
