@@ -47,3 +47,12 @@ point-bound x = omega (arith, words-long (point-values x), length-take (min (x .
 
 pub region-bound : (g : Reading) (x : Point) → lines-size (region-frames g x) ≤ 1882
 region-bound g x = omega (arith, point-bound x, ranges-bound g, pairs-bound g)
+
+pub size-on : (fs gs : List (List ℕ)) → lines-size (fs ++ gs) ≡ lines-size fs + lines-size gs
+size-on [] gs = omega arith
+size-on (f ∷ fs) gs = omega (arith, size-on fs gs)
+
+-- as many regions as there are
+pub regions-bound : {A : Type 0} (g : A → Reading) (x : A → Point) (rs : List A) → lines-size (joined (λ r. region-frames (g r) (x r)) rs) ≤ 1882 * length rs
+regions-bound g x [] = omega arith
+regions-bound g x (r ∷ rs) = omega (arith, size-on (region-frames (g r) (x r)) (joined (λ r. region-frames (g r) (x r)) rs), region-bound (g r) (x r), regions-bound g x rs)

@@ -2,3 +2,4 @@ pub mod Adding
 pub mod Bounds
 pub mod Passing
 pub mod Pointed
+pub mod Telling

@@ -1,3 +1,4 @@
 pub mod Appending
 pub mod EndFrame
+pub mod PairLaws
 pub mod RegionFrames
