@@ -6,6 +6,7 @@ pub mod Grounds
 pub mod Histories
 pub mod Invariant
 pub mod Limits
+pub mod Portions
 pub mod Promise
 pub mod Readings
 pub mod Refining

@@ -1,6 +1,7 @@
 pub mod Calls
 pub mod Ledgers
 pub mod Outcomes
+pub mod Portions
 pub mod Promise
 pub mod RegionLaws
 pub mod Regions
