@@ -1,3 +1,4 @@
+pub mod Beside
 pub mod Cases
 pub mod Classifying
 pub mod Counting
@@ -14,4 +15,5 @@ pub mod RunLaws
 pub mod RunKept
 pub mod Running
 pub mod Standing
+pub mod TwoRuns
 pub mod Walking

@@ -69,7 +69,7 @@ module _ {S R : Type 0} (M : ShapeModel S) (K : RuleModel R) (rs : List R) where
 
 module _ {S R : Type 0} (M : ShapeModel S) (K : RuleModel R) (rs : List R) {found : Bool} {out : List (Region S)} {places : ℕ} {base : List (Region S)} where
   -- so the count only grows
-  count-grows : (b i : ℕ) (w : Work S) (h : Held S) → Tied found out places base w h → w .count ≤ run-from M K rs b i w .work .count
+  pub count-grows : (b i : ℕ) (w : Work S) (h : Held S) → Tied found out places base w h → w .count ≤ run-from M K rs b i w .work .count
   count-grows b i w h d =
       let r = run-as M K rs found out places base b i w h d in
       let more = walk-adds M K rs (r .made) h in
