@@ -1,0 +1,4 @@
+pub mod Items
+pub mod Limits
+pub mod Rounds
+pub mod Verdicts

@@ -1,11 +1,10 @@
 // The solver's state, and the calls that state rules, mark and take back, begin and leave a search, and ask a limit.
 ghost use mathlib.Core.Path.{_≡_};
 ghost use Rattle.search_theory.specs.Calls.{state-call, mark-call, back-call, keep-call, begin-call, leave-call, limit-call};
-ghost use Rattle.search_theory.specs.Regions.{is-void};
 ghost use Rattle.search_theory.specs.Solving.{left, open-call, is-stating};
 ghost use Rattle.search.specs.Views.{view, view-if-any};
+use super::extents::void;
 use super::slot::item;
-use interface::extent::Extent;
 use interface::fault::RecordFault;
 use interface::fault::RecordInSolver;
 use interface::fault::SolverFault;
@@ -34,16 +33,6 @@ fn stating(phase: Phase) -> bool
     match phase {
         Phase::Stating => true,
         Phase::Searching => false,
-    }
-}
-
-fn void(extent: Extent) -> bool
-    ensures { λ r. ⌜ r ≡ is-void extent ⌝ }
-{
-    match extent {
-        Extent::Void => true,
-        Extent::Lone => false,
-        Extent::Open => false,
     }
 }
 
@@ -184,7 +173,7 @@ impl<S: Shape> Solver<S> {
         if q == opposite(p) {
             return Err(SolverFault::Record(RecordFault::Clash(3)));
         }
-        if void(self.shape.extent()) {
+        if void(&self.shape) {
             return Err(SolverFault::Void);
         }
         Ok(self.shape.limit(p, q))
