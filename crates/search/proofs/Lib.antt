@@ -1,3 +1,4 @@
+pub mod Budgets
 pub mod Items
 pub mod Limits
 pub mod Rounds

@@ -5,3 +5,4 @@ mod readings;
 pub mod refine;
 mod slot;
 pub mod solver;
+mod steps;
