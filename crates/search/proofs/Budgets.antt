@@ -1,11 +1,11 @@
 -- A run with some steps left ends here, or is a step and then a run with one step fewer. Assumes nothing.
-use Prim.Native.Nat.{ℕ, zero, suc, _+_, _-_, _<_}
+use Prim.Native.Nat.{ℕ, zero, suc, _+_, _-_, _<_, _≤_}
 use mathlib.Core.Bool.{Bool, true, false, cond}
 use mathlib.Core.List.{List}
 use mathlib.Core.Path.{_≡_, refl, ap, sym, _∙_}
 use native.Mathlib.Omega.{arith}
 use lib.Dec.{eqb}
-use borrow.Author.Tests.{ne-eqb}
+use borrow.Author.Tests.{eqb-true, eqb-false}
 use Rattle.std.specs.declared.result.Result.{Result}
 use Rattle.std.specs.declared.result.Result.the-variants.{Ok, Err}
 use Rattle.interface.specs.Rules.{RuleModel}
@@ -13,10 +13,7 @@ use Rattle.interface.specs.Shapes.{ShapeModel}
 use Rattle.search_theory.specs.declared.outcome.Outcome.{Outcome}
 use Rattle.search_theory.specs.declared.outcome.Outcome.the-variants.{Done, Spent}
 use Rattle.search_theory.specs.Runs.{Work, Ended, ended, go-on, step, run-from}
-use Rattle.search.specs.Works.{stepped}
-
-some-wait : (n : ℕ) → 0 < n → eqb n 0 ≡ false
-some-wait n h = ne-eqb n 0 (λ e. omega arith)
+use Rattle.search.specs.Works.{stepped, turned}
 
 module _ {S : Type 0} (w v : Work S) (more : Work S → Ended S) (i : ℕ) where
   go-made : (x : Result (Work S) Outcome) → (Ok tt, v) ≡ stepped w x → go-on x (λ o. ended o i w) more ≡ more v
@@ -30,20 +27,27 @@ module _ {S : Type 0} (w v : Work S) (more : Work S → Ended S) (i : ℕ) where
       ap (λ q. ended q i w) same ∙ ap (ended o i) (sym (ap (λ q. q .1) e))
 
 module _ {S R : Type 0} (M : ShapeModel S) (K : RuleModel R) (rs : List R) (w : Work S) where
-  pub run-done : (b i : ℕ) → w .waiting ≡ 0 → run-from M K rs b i w ≡ ended Done i w
-  run-done zero i e = ap (λ n. cond (eqb n 0) (ended Done i w) (ended Spent i w)) e
-  run-done (suc b) i e = ap (λ n. cond (eqb n 0) (ended Done i w) (go-on (step M K rs w) (λ o. ended o i w) (run-from M K rs b (i + 1)))) e
+  -- with b - s steps left and s made
+  turns : (b s : ℕ) → s ≤ b → run-from M K rs (b - s) s w ≡ go-on (turned M K rs s b w) (λ o. ended o s w) (run-from M K rs (b - (s + 1)) (s + 1))
+  turns b s l = by (eqb s b) refl
+    where
+      some-left : (t : Bool) → s < b → cond t (ended Done s w) (go-on (step M K rs w) (λ o. ended o s w) (run-from M K rs (b - (s + 1)) (s + 1))) ≡ go-on (cond t (Err Done) (step M K rs w)) (λ o. ended o s w) (run-from M K rs (b - (s + 1)) (s + 1))
+      some-left true h = refl
+      some-left false h = refl
 
-  pub run-spent : (b i : ℕ) → b ≡ 0 → 0 < w .waiting → run-from M K rs b i w ≡ ended Spent i w
-  run-spent b i e h = ap (λ n. run-from M K rs n i w) e ∙ ap (λ t. cond t (ended Done i w) (ended Spent i w)) (some-wait (w .waiting) h)
+      none-left : (t : Bool) → cond t (ended Done s w) (ended Spent s w) ≡ go-on (cond t (Err Done) (Err Spent)) (λ o. ended o s w) (run-from M K rs (b - (s + 1)) (s + 1))
+      none-left true = refl
+      none-left false = refl
 
-  run-more : (b s i : ℕ) → s < b → 0 < w .waiting → run-from M K rs (b - s) i w ≡ go-on (step M K rs w) (λ o. ended o i w) (run-from M K rs (b - (s + 1)) (i + 1))
-  run-more b s i l h =
-      let more : b - s ≡ suc (b - (s + 1)) = omega arith in
-      ap (λ n. run-from M K rs n i w) more ∙ ap (λ t. cond t (ended Done i w) (go-on (step M K rs w) (λ o. ended o i w) (run-from M K rs (b - (s + 1)) (i + 1)))) (some-wait (w .waiting) h)
+      by : (t : Bool) → eqb s b ≡ t → run-from M K rs (b - s) s w ≡ go-on (cond (eqb (w .waiting) 0) (Err Done) (cond t (Err Spent) (step M K rs w))) (λ o. ended o s w) (run-from M K rs (b - (s + 1)) (s + 1))
+      by true e = let none : b - s ≡ 0 = omega (arith, eqb-true s b e) in ap (λ n. run-from M K rs n s w) none ∙ none-left (eqb (w .waiting) 0)
+      by false e =
+          let h : s < b = omega (arith, eqb-false s b e) in
+          let more : b - s ≡ suc (b - (s + 1)) = omega arith in
+          ap (λ n. run-from M K rs n s w) more ∙ some-left (eqb (w .waiting) 0) h
 
-  pub run-made : (b s : ℕ) → s < b → 0 < w .waiting → (v : Work S) → (Ok tt, v) ≡ stepped w (step M K rs w) → run-from M K rs (b - s) s w ≡ run-from M K rs (b - (s + 1)) (s + 1) v
-  run-made b s l h v e = run-more b s s l h ∙ go-made w v (run-from M K rs (b - (s + 1)) (s + 1)) s (step M K rs w) e
+  pub turn-made : (b s : ℕ) → s ≤ b → (v : Work S) → (Ok tt, v) ≡ stepped w (turned M K rs s b w) → run-from M K rs (b - s) s w ≡ run-from M K rs (b - (s + 1)) (s + 1) v
+  turn-made b s l v e = turns b s l ∙ go-made w v (run-from M K rs (b - (s + 1)) (s + 1)) s (turned M K rs s b w) e
 
-  pub run-stopped : (b s : ℕ) → s < b → 0 < w .waiting → (v : Work S) (o : Outcome) → (Err o, v) ≡ stepped w (step M K rs w) → run-from M K rs (b - s) s w ≡ ended o s v
-  run-stopped b s l h v o e = run-more b s s l h ∙ go-stopped w v (run-from M K rs (b - (s + 1)) (s + 1)) s o (step M K rs w) e
+  pub turn-stopped : (b s : ℕ) → s ≤ b → (v : Work S) (o : Outcome) → (Err o, v) ≡ stepped w (turned M K rs s b w) → run-from M K rs (b - s) s w ≡ ended o s v
+  turn-stopped b s l v o e = turns b s l ∙ go-stopped w v (run-from M K rs (b - (s + 1)) (s + 1)) s o (turned M K rs s b w) e

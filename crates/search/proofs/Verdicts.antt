@@ -8,7 +8,6 @@ use Rattle.interface.specs.declared.reading.Reading.{Reading}
 use Rattle.interface.specs.declared.verdict.Verdict.{Verdict}
 use Rattle.interface.specs.declared.verdict.Verdict.the-variants.{Nothing, All, Unknown}
 use Rattle.interface.specs.Rules.{RuleModel}
-use Rattle.interface.specs.Shapes.{ShapeModel}
 use Rattle.search_theory.specs.Regions.{both, judged}
 use Rattle.search.proofs.Items.{at-item}
 
@@ -28,12 +27,12 @@ both-assoc Unknown Unknown Nothing = refl
 both-assoc Unknown Unknown All = refl
 both-assoc Unknown Unknown Unknown = refl
 
-module _ {S R : Type 0} (M : ShapeModel S) (K : RuleModel R) (g : Reading) where
+module _ {R : Type 0} (K : RuleModel R) (g : Reading) where
   -- the next rule's verdict w joins v, those before it
-  pub judged-more : (xs : List R) (i : ℕ) (x : R) → i < length xs → x ≡ getD xs i x → (v w u : Verdict) → w ≡ K .judge x g → u ≡ both v w → both v (judged M K (drop i xs) g) ≡ both u (judged M K (drop (i + 1) xs) g)
+  pub judged-more : (xs : List R) (i : ℕ) (x : R) → i < length xs → x ≡ getD xs i x → (v w u : Verdict) → w ≡ K .judge x g → u ≡ both v w → both v (judged K (drop i xs) g) ≡ both u (judged K (drop (i + 1) xs) g)
   judged-more xs i x h e v w u ew eu =
-      let rest : Verdict = judged M K (drop (i + 1) xs) g in
-      at-item (λ rs. both v (judged M K rs g)) xs i x h e ∙ ap (λ z. both v (both z rest)) (sym ew) ∙ sym (both-assoc v w rest) ∙ ap (λ z. both z rest) (sym eu)
+      let rest : Verdict = judged K (drop (i + 1) xs) g in
+      at-item (λ rs. both v (judged K rs g)) xs i x h e ∙ ap (λ z. both v (both z rest)) (sym ew) ∙ sym (both-assoc v w rest) ∙ ap (λ z. both z rest) (sym eu)
 
-  pub judged-end : (xs : List R) (i : ℕ) → length xs ≤ i → (v : Verdict) → both v (judged M K (drop i xs) g) ≡ v
-  judged-end xs i h v = at-drop-all (λ rs. both v (judged M K rs g)) xs i h ∙ both-all v
+  pub judged-end : (xs : List R) (i : ℕ) → length xs ≤ i → (v : Verdict) → both v (judged K (drop i xs) g) ≡ v
+  judged-end xs i h v = at-drop-all (λ rs. both v (judged K rs g)) xs i h ∙ both-all v

@@ -1,9 +1,11 @@
 // What becomes of a refined region.
 ghost use mathlib.Core.Path.{_≡_};
-ghost use Rattle.search_theory.specs.Regions.{both, judged, classify, fate-by, read};
+ghost use Rattle.search_theory.specs.Regions.{both, judged, classify, fate-by};
+ghost use Rattle.search_theory.specs.RegionLaws.{Classified};
 use super::extents::void;
 use super::readings::take_reading;
 use interface::point::Point;
+use interface::reading::Reading;
 use interface::rule::Rule;
 use interface::shape::Shape;
 use interface::verdict::Verdict;
@@ -24,14 +26,13 @@ fn together(a: Verdict, b: Verdict) -> Verdict
     }
 }
 
-// What all rules say of the points within the shape's limits.
-fn judge_all<S: Shape, R: Rule>(rules: &[R], shape: &S) -> Verdict
-    ensures { λ r. ⌜ r ≡ judged (S·Shape .model) (R·Rule .model) (now (rules .entry)) (read (S·Shape .model) (now (shape .entry))) ⌝ }
+// What all rules say of the points within a reading.
+fn judge_all<R: Rule>(rules: &[R], reading: &Reading) -> Verdict
+    ensures { λ r. ⌜ r ≡ judged model (now (rules .entry)) (now (reading .entry)) ⌝ }
 {
-    let reading = take_reading(shape);
     let mut verdict = Verdict::All;
     for rule in rules {
-        verdict = together(verdict, rule.judge(&reading));
+        verdict = together(verdict, rule.judge(reading));
         if let Verdict::Nothing = verdict {
             return verdict;
         }
@@ -52,12 +53,20 @@ fn decide(verdict: Verdict, offered: Option<Point>) -> Fate
     }
 }
 
-// Dropped where no point of the region meets the rules, handed out where every one does and one is offered, else split.
-pub fn classify<S: Shape, R: Rule>(rules: &[R], shape: &S) -> Fate
+fn fate<S: Shape, R: Rule>(rules: &[R], shape: &S) -> Fate
     ensures { λ r. ⌜ r ≡ classify (S·Shape .model) (R·Rule .model) (now (rules .entry)) (now (shape .entry)) ⌝ }
 {
     if void(shape) {
         return Fate::Dropped;
     }
-    decide(judge_all(rules, shape), shape.offer())
+    let reading = take_reading(shape);
+    decide(judge_all(rules, &reading), shape.offer())
+}
+
+// Dropped where no point of the region meets the rules, handed out where every one does and one is offered, else split.
+pub fn classify<S: Shape, R: Rule>(rules: &[R], shape: &S) -> Fate
+    ensures value { λ r. ⌜ r ≡ classify (S·Shape .model) (R·Rule .model) (now (rules .entry)) (now (shape .entry)) ⌝ }
+    ensures truth { λ r. ⌜ Classified (S·Shape .model) (R·Rule .model) (now (rules .entry)) (now (shape .entry)) r ⌝ }
+{
+    fate(rules, shape)
 }

@@ -2,6 +2,7 @@
 ghost use mathlib.Core.Bool.{true};
 ghost use mathlib.Core.Path.{_≡_};
 ghost use Rattle.search_theory.specs.Regions.{is-open, cut-if-any, tighten, refine, read};
+ghost use Rattle.search_theory.specs.RegionLaws.{Refined};
 use super::extents::open;
 use super::readings::same_limits;
 use super::readings::take_reading;
@@ -21,8 +22,7 @@ fn apply<S: Shape, R: Rule>(rule: &R, i: u8, shape: &mut S, reading: &mut Readin
     }
 }
 
-// Up to eight rounds over the rules and their three cuts, until one alters no limit or the region is no longer open.
-pub fn refine<S: Shape, R: Rule>(rules: &[R], shape: S) -> S
+fn rounds<S: Shape, R: Rule>(rules: &[R], shape: S) -> S
     ensures { λ r. ⌜ r ≡ refine (S·Shape .model) (R·Rule .model) (now (rules .entry)) shape ⌝ }
 {
     let mut region = shape;
@@ -42,4 +42,13 @@ pub fn refine<S: Shape, R: Rule>(rules: &[R], shape: S) -> S
         }
     }
     region
+}
+
+// Up to eight rounds over the rules and their three cuts, until one alters no limit or the region is no longer open:
+// every held point that meets the rules stays, and none is added.
+pub fn refine<S: Shape, R: Rule>(rules: &[R], shape: S) -> S
+    ensures value { λ r. ⌜ r ≡ refine (S·Shape .model) (R·Rule .model) (now (rules .entry)) shape ⌝ }
+    ensures narrows { λ r. ⌜ Refined (S·Shape .model) (R·Rule .model) (now (rules .entry)) shape r ⌝ }
+{
+    rounds(rules, shape)
 }

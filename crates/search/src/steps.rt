@@ -2,8 +2,9 @@
 ghost use Prim.Native.Nat.{_<_, _≤_};
 ghost use mathlib.Core.Path.{_≡_};
 ghost use lib.ListN.{length};
+ghost use Rattle.std.specs.declared.result.Result.the-variants.{Ok, Err};
 ghost use Rattle.search_theory.specs.Runs.{step, ended, run-from};
-ghost use Rattle.search.specs.Works.{work-of, stepped};
+ghost use Rattle.search.specs.Works.{work-of, stepped, turned};
 use super::classify::classify;
 use super::refine::refine;
 use super::slot::item;
@@ -59,7 +60,30 @@ fn step<S: Shape, R: Rule>(
     Ok(())
 }
 
-// Steps until nothing waits, the budget is used up or a step lacks a place; answers which of them, and how many steps.
+// The next step, unless nothing waits or the budget is used up.
+fn turn<S: Shape, R: Rule>(
+    progress: &mut Progress,
+    rules: &[R],
+    stack: &mut [S],
+    out: &mut [Region<S>],
+    steps: u32,
+    budget: u32,
+) -> Result<(), Outcome>
+    requires { ⌜ now progress .waiting ≤ length (now stack) ⌝ ∗ ⌜ steps ≤ budget ⌝ }
+    ensures after { λ r. ⌜ (r, work-of (now (progress .exit)) (now (stack .exit)) (now (out .exit))) ≡ stepped (work-of (now (progress .entry)) (now (stack .entry)) (now (out .entry))) (turned (S·Shape .model) (R·Rule .model) (now (rules .entry)) steps budget (work-of (now (progress .entry)) (now (stack .entry)) (now (out .entry)))) ⌝ }
+    ensures bound { λ r. ⌜ now (progress .exit) .waiting ≤ length (now (stack .exit)) ⌝ }
+    ensures below { λ r. ⌜ elim r [ Ok u ↦ steps < budget | Err o ↦ Unit {0} ] ⌝ }
+{
+    if progress.waiting == 0 {
+        return Err(Outcome::Done);
+    }
+    if steps == budget {
+        return Err(Outcome::Spent);
+    }
+    step(progress, rules, stack, out)
+}
+
+// Turns until one cannot be made; answers why, and how many were made.
 pub(crate) fn run_on<S: Shape, R: Rule>(
     progress: &mut Progress,
     rules: &[R],
@@ -71,14 +95,10 @@ pub(crate) fn run_on<S: Shape, R: Rule>(
     ensures { λ r. ⌜ ended (r .0) (r .1) (work-of (now (progress .exit)) (now (stack .exit)) (now (out .exit))) ≡ run-from (S·Shape .model) (R·Rule .model) (now (rules .entry)) budget 0 (work-of (now (progress .entry)) (now (stack .entry)) (now (out .entry))) ⌝ }
 {
     let mut steps = 0u32;
-    while progress.waiting > 0 {
-        if steps == budget {
-            return (Outcome::Spent, steps);
-        }
-        if let Err(outcome) = step(progress, rules, stack, out) {
+    'turns: loop {
+        if let Err(outcome) = turn(progress, rules, stack, out, steps, budget) {
             return (outcome, steps);
         }
         steps += 1;
     }
-    (Outcome::Done, steps)
 }

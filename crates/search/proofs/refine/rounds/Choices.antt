@@ -3,7 +3,7 @@ use lib.ListN.{drop}
 use mathlib.Core.Path.{_≡_}
 use Rattle.std.specs.Iters.{counting}
 use Rattle.search_theory.specs.Regions.{read, by-cuts, by-rules, by-rounds, refine}
-use Rattle.search.proofs.refine.refine.Given as given
+use Rattle.search.proofs.refine.rounds.Given as given
 
 -- the cuts that are left give what all three give
 abbrev pub Inv-cuts : given.InvT-cuts
