@@ -9,8 +9,7 @@ pub(crate) fn void<S: Shape>(shape: &S) -> bool
 {
     match shape.extent() {
         Extent::Void => true,
-        Extent::Lone => false,
-        Extent::Open => false,
+        Extent::Lone | Extent::Open => false,
     }
 }
 
@@ -18,8 +17,7 @@ pub(crate) fn open<S: Shape>(shape: &S) -> bool
     ensures { λ r. ⌜ r ≡ is-open (model .extent (now (shape .entry))) ⌝ }
 {
     match shape.extent() {
-        Extent::Void => false,
-        Extent::Lone => false,
+        Extent::Void | Extent::Lone => false,
         Extent::Open => true,
     }
 }

@@ -1,12 +1,10 @@
 // The solver's state, and the calls that state rules, mark and take back, begin and leave a search, and ask a limit.
 ghost use mathlib.Core.Path.{_≡_};
-ghost use Rattle.search_theory.specs.Calls.{state-call, mark-call, back-call, keep-call, begin-call, run-call, leave-call, limit-call};
+ghost use Rattle.search_theory.specs.Calls.{state-call, mark-call, back-call, keep-call, begin-call, leave-call, limit-call};
 ghost use Rattle.search_theory.specs.Solving.{left, open-call, is-stating};
 ghost use Rattle.search.specs.Views.{view, view-if-any};
 use super::extents::void;
 use super::slot::item;
-use super::steps::Progress;
-use super::steps::run_on;
 use interface::fault::RecordFault;
 use interface::fault::RecordInSolver;
 use interface::fault::SolverFault;
@@ -16,10 +14,9 @@ use interface::rule::Rule;
 use interface::shape::Shape;
 use search_theory::checkpoint::Checkpoint;
 use search_theory::phase::Phase;
-use search_theory::region::Region;
-use search_theory::report::Report;
 
 mod call;
+mod run;
 
 // The shape, how many rules stand, how many checkpoints are kept, how many regions wait, the phase, and whether a
 // region was handed out since the search began. What is counted lies in slices that the caller lends.
@@ -183,37 +180,5 @@ impl<S: Shape> Solver<S> {
             return Err(SolverFault::Void);
         }
         Ok(self.shape.limit(p, q))
-    }
-
-    // Takes waiting regions step by step, at most `budget` of them, and puts what is handed out in the out slice from its front.
-    pub fn run<R: Rule>(
-        &mut self,
-        rules: &[R],
-        stack: &mut [S],
-        out: &mut [Region<S>],
-        budget: u32,
-    ) -> Result<Report, SolverFault>
-        ensures { λ r. ⌜ left r (view (now (self .exit))) (now (stack .exit), now (out .exit)) ≡ run-call (S·Shape .model) (R·Rule .model) (view (now (self .entry))) (now (rules .entry)) (now (stack .entry)) (now (out .entry)) budget ⌝ }
-    {
-        if stating(self.phase) {
-            return Err(SolverFault::Phase);
-        }
-        if rules.len() < self.rules || stack.len() < self.waiting {
-            return Err(SolverFault::Short);
-        }
-        let mut progress = Progress {
-            waiting: self.waiting,
-            count: 0,
-            found: self.found,
-        };
-        let (outcome, steps) = run_on(&mut progress, &rules[0..self.rules], stack, out, budget);
-        self.waiting = progress.waiting;
-        self.found = progress.found;
-        Ok(Report {
-            outcome,
-            steps,
-            count: progress.count,
-            found: progress.found,
-        })
     }
 }

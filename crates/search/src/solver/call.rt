@@ -28,7 +28,7 @@ impl<S: Shape> Solver<S> {
             Request::Back => plain(self.back(checkpoints)),
             Request::Keep => plain(self.keep()),
             Request::Begin => plain(self.begin(stack)),
-            Request::Run(budget) => Ok(Reply::Ran(self.run(rules, stack, out, budget)?)),
+            Request::Run(budget) => Ok(Reply::Ran(self.run_any(rules, stack, out, budget)?)),
             Request::Leave => plain(self.leave()),
             Request::Limit(p, q) => Ok(Reply::LimitIs(self.limit(p, q)?)),
         }
