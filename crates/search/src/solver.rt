@@ -1,22 +1,20 @@
-// The solver's state, and the calls that state rules, mark and take back, begin and leave a search, and ask a limit.
+// The solver's state, and the calls that open it, mark and take back, begin and leave a search.
 ghost use mathlib.Core.Path.{_≡_};
-ghost use Rattle.search_theory.specs.Calls.{state-call, mark-call, back-call, keep-call, begin-call, leave-call, limit-call};
+ghost use Rattle.search_theory.specs.Calls.{mark-call, back-call, keep-call, begin-call, leave-call};
 ghost use Rattle.search_theory.specs.Solving.{left, open-call, is-stating};
 ghost use Rattle.search.specs.Views.{view, view-if-any};
-use super::extents::void;
 use super::slot::item;
-use interface::fault::RecordFault;
 use interface::fault::RecordInSolver;
 use interface::fault::SolverFault;
 use interface::home::Home;
-use interface::node::opposite;
-use interface::rule::Rule;
 use interface::shape::Shape;
 use search_theory::checkpoint::Checkpoint;
 use search_theory::phase::Phase;
 
 mod call;
+mod limit;
 mod run;
+mod state;
 
 // The shape, how many rules stand, how many checkpoints are kept, how many regions wait, the phase, and whether a
 // region was handed out since the search began. What is counted lies in slices that the caller lends.
@@ -53,29 +51,6 @@ impl<S: Shape> Solver<S> {
             phase: Phase::Stating,
             found: false,
         })
-    }
-
-    // Puts a rule after the others, of which there are at most 32, and applies its standing cut.
-    pub fn state<R: Rule>(&mut self, rules: &mut [R], rule: R) -> Result<(), SolverFault>
-        ensures { λ r. ⌜ left r (view (now (self .exit))) (now (rules .exit)) ≡ state-call (S·Shape .model) (R·Rule .model) (view (now (self .entry))) (now (rules .entry)) rule ⌝ }
-    {
-        if !stating(self.phase) {
-            return Err(SolverFault::Phase);
-        }
-        if rules.len() < self.rules {
-            return Err(SolverFault::Short);
-        }
-        let n = self.shape.n();
-        rule.check(n)?;
-        if self.rules >= 32 || rules.len() == self.rules {
-            return Err(SolverFault::Rules);
-        }
-        rules[self.rules] = rule;
-        self.rules += 1;
-        if let Some(cut) = rule.standing(n) {
-            self.shape.cut(cut);
-        }
-        Ok(())
     }
 
     // Puts a checkpoint of the shape and the count of rules after the others, of which there are at most 4.
@@ -160,25 +135,5 @@ impl<S: Shape> Solver<S> {
         self.waiting = 0;
         self.phase = Phase::Stating;
         Ok(())
-    }
-
-    // The limit of the solver's own shape at two nodes on the line that are not opposite.
-    pub fn limit(&self, p: u8, q: u8) -> Result<i32, SolverFault>
-        ensures { λ r. ⌜ r ≡ limit-call model (view (now (self .entry))) p q ⌝ }
-    {
-        let nodes = 2 * self.shape.n() as usize;
-        if p as usize >= nodes {
-            return Err(SolverFault::Record(RecordFault::Node(2)));
-        }
-        if q as usize >= nodes {
-            return Err(SolverFault::Record(RecordFault::Node(3)));
-        }
-        if q == opposite(p) {
-            return Err(SolverFault::Record(RecordFault::Clash(3)));
-        }
-        if void(&self.shape) {
-            return Err(SolverFault::Void);
-        }
-        Ok(self.shape.limit(p, q))
     }
 }

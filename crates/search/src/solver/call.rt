@@ -23,14 +23,14 @@ impl<S: Shape> Solver<S> {
         ensures { λ r. ⌜ answered-by r (world-of (now (self .exit)) (now (rules .exit)) (now (checkpoints .exit)) (now (stack .exit))) (now (out .exit)) ≡ answer (S·Shape .model) (R·Rule .model) (world-of (now (self .entry)) (now (rules .entry)) (now (checkpoints .entry)) (now (stack .entry))) (now (out .entry)) request ⌝ }
     {
         match request {
-            Request::State(rule) => plain(self.state(rules, rule)),
+            Request::State(rule) => plain(self.state_any(rules, rule)),
             Request::Mark => plain(self.mark(checkpoints)),
             Request::Back => plain(self.back(checkpoints)),
             Request::Keep => plain(self.keep()),
             Request::Begin => plain(self.begin(stack)),
             Request::Run(budget) => Ok(Reply::Ran(self.run_any(rules, stack, out, budget)?)),
             Request::Leave => plain(self.leave()),
-            Request::Limit(p, q) => Ok(Reply::LimitIs(self.limit(p, q)?)),
+            Request::Limit(p, q) => Ok(Reply::LimitIs(self.limit_any(p, q)?)),
         }
     }
 

@@ -1,0 +1,31 @@
+-- What stating a rule and asking a limit mean, in terms of the points that the solver's shape holds. Assumes nothing.
+use Prim.Native.Nat.{ℕ}
+use mathlib.Core.Bool.{true}
+use mathlib.Core.List.{List}
+use mathlib.Core.Path.{_≡_}
+use lib.IntN.{ℤ, _+ℤ_}
+use lib.Signed.{_≤ℤ_}
+use Rattle.std.specs.declared.result.Result.{Result}
+use Rattle.std.specs.declared.result.Result.the-variants.{Ok}
+use Rattle.interface.specs.declared.extent.Extent.the-variants.{Lone}
+use Rattle.interface.specs.declared.fault.SolverFault.{SolverFault}
+use Rattle.interface.specs.Nodes.{value}
+use Rattle.interface.specs.Numbers.{within}
+use Rattle.interface.specs.Rules.{RuleModel}
+use Rattle.interface.specs.Shapes.{ShapeModel, Made}
+use Rattle.search_theory.specs.RegionLaws.{Narrowed}
+use Rattle.search_theory.specs.Solving.{Solving, Left}
+
+-- an accepted rule keeps every held point that meets it, and adds none
+abbrev pub State-narrows : {S R T : Type 0} → ShapeModel S → RuleModel R → Solving S → R → Left S (Unit {0}) T → Type 0
+State-narrows M K s r l = Made M (s .shape) → l .reply ≡ Ok tt → Narrowed M (λ x. K .meets (M .n (s .shape)) r x ≡ true) (s .shape) (l .solver .shape)
+
+-- m bounds v(p) + v(q) over the points that the shape holds, and is that sum where the shape holds one point
+pub record Bounds {S : Type 0} (M : ShapeModel S) (s : S) (p q : ℕ) (m : ℤ) : Type 0 where
+  pub above : (x : List ℤ) → M .holds s x ≡ true → (value x p +ℤ value x q) ≤ℤ m
+  pub on-lone : M .extent s ≡ Lone → (x : List ℤ) → M .holds s x ≡ true → m ≡ value x p +ℤ value x q
+  pub in-range : within 2000000 m ≡ true
+
+-- an answered limit bounds
+abbrev pub Limit-bounds : {S : Type 0} → ShapeModel S → Solving S → ℕ → ℕ → Result ℤ SolverFault → Type 0
+Limit-bounds M s p q r = Made M (s .shape) → (m : ℤ) → r ≡ Ok m → Bounds M (s .shape) p q m
