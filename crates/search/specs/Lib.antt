@@ -1,3 +1,4 @@
 pub mod Meanings
+pub mod Promised
 pub mod Views
 pub mod Works

@@ -1,6 +1,7 @@
 // Any of the eight calls, as data.
 ghost use mathlib.Core.Path.{_≡_};
 ghost use Rattle.search_theory.specs.Requests.{answer, accepted, replied};
+ghost use Rattle.search.specs.Promised.{Promised};
 ghost use Rattle.search.specs.Views.{world-of, answered-by};
 use super::Solver;
 use interface::fault::SolverFault;
@@ -44,6 +45,7 @@ impl<S: Shape> Solver<S> {
         request: Request<R>,
     ) -> Result<Reply, SolverFault>
         ensures answers { λ r. ⌜ answered-by r (world-of (now (self .exit)) (now (rules .exit)) (now (checkpoints .exit)) (now (stack .exit))) (now (out .exit)) ≡ answer (S·Shape .model) (R·Rule .model) (world-of (now (self .entry)) (now (rules .entry)) (now (checkpoints .entry)) (now (stack .entry))) (now (out .entry)) request ⌝ }
+        ensures promise { λ r. ⌜ Promised (S·Shape .model) (R·Rule .model) (world-of (now (self .entry)) (now (rules .entry)) (now (checkpoints .entry)) (now (stack .entry))) request (answered-by r (world-of (now (self .exit)) (now (rules .exit)) (now (checkpoints .exit)) (now (stack .exit))) (now (out .exit))) ⌝ }
     {
         self.call_any(rules, checkpoints, stack, out, request)
     }
