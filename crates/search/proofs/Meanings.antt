@@ -6,20 +6,33 @@ use mathlib.Core.Path.{_≡_, refl, ap, sym, subst, _∙_}
 use borrow.Author.Tests.{leb-false}
 use lib.IntN.{ℤ}
 use lib.ListN.{set}
+use Rattle.std.specs.Orderings.{Decides}
 use Rattle.std.specs.declared.result.Result.{Result}
 use Rattle.std.specs.declared.result.Result.the-variants.{Ok, Err}
 use Rattle.interface.specs.declared.fault.SolverFault.{SolverFault}
+use Rattle.interface.specs.declared.fault.SolverFault.the-variants.{Record}
+use Rattle.interface.specs.declared.fault.RecordFault.{RecordFault}
+use Rattle.interface.specs.declared.home.Home.{Home}
+use Rattle.interface.specs.Homes.{home-check, In-home}
 use Rattle.interface.specs.Grounds.{first-fault}
 use Rattle.interface.specs.Rules.{RuleModel, RuleLaws}
-use Rattle.interface.specs.Shapes.{ShapeModel, ShapeLaws, Made}
+use Rattle.interface.specs.Shapes.{ShapeModel, ShapeLaws, Made, by-start}
 use Rattle.search_theory.specs.Calls.{state-grounds, stated, state-call, limit-grounds, limit-call}
 use Rattle.search_theory.specs.RegionLaws.{Narrowed}
-use Rattle.search_theory.specs.Solving.{Solving, Left, left, refused, decided}
+use Rattle.search_theory.specs.Solving.{Solving, Left, left, refused, decided, opened, open-call}
 use Rattle.search_theory.proofs.Cases.{err≢ok}
 use Rattle.search_theory.proofs.Grounds.{none-hold, ok-same}
 use Rattle.search_theory.proofs.Readings.{read-n, held-within}
 use Rattle.search_theory.proofs.Refining.{narrowed-cut}
-use Rattle.search.specs.Meanings.{State-narrows, Bounds, Limit-bounds}
+use Rattle.search.specs.Meanings.{Opens, State-narrows, Bounds, Limit-bounds}
+
+module _ {S : Type 0} {M : ShapeModel S} (L : ShapeLaws M) (h : Home) where
+  opens-if : (g : Result (Unit {0}) RecordFault) → home-check h ≡ g → Opens M h (decided g (λ f. Err (Record f)) (Ok (opened M h)))
+  opens-if (Err f) e s d = absurd (err≢ok d)
+  opens-if (Ok u) e s d = subst (λ (t : Solving S). Made M (t .shape) × (M .n (t .shape) ≡ h .n) × ((x : List ℤ) → Decides (M .holds (t .shape) x) (In-home h x))) (ok-same d) (by-start h e, L .start-n h e, L .start-holds h e)
+
+  pub opens : Opens M h (open-call M h)
+  opens = opens-if (home-check h) refl
 
 module _ {S R : Type 0} {M : ShapeModel S} {K : RuleModel R} (L : ShapeLaws M) (J : RuleLaws K) (s : Solving S) (rules : List R) (r : R) where
   abbrev after : Result (Unit {0}) SolverFault → Left S (Unit {0}) (List R)

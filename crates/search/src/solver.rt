@@ -2,6 +2,7 @@
 ghost use mathlib.Core.Path.{_≡_};
 ghost use Rattle.search_theory.specs.Calls.{mark-call, back-call, keep-call, begin-call, leave-call};
 ghost use Rattle.search_theory.specs.Solving.{left, open-call, is-stating};
+ghost use Rattle.search.specs.Meanings.{Opens};
 ghost use Rattle.search.specs.Views.{view, view-if-any};
 use super::slot::item;
 use interface::fault::RecordInSolver;
@@ -38,8 +39,7 @@ fn stating(phase: Phase) -> bool
 }
 
 impl<S: Shape> Solver<S> {
-    // A solver on the shape of a home, with no rule; refused with the home's own fault.
-    pub fn open(home: &Home) -> Result<Solver<S>, SolverFault>
+    fn open_any(home: &Home) -> Result<Solver<S>, SolverFault>
         ensures { λ r. ⌜ view-if-any r ≡ open-call model (now (home .entry)) ⌝ }
     {
         home.check()?;
@@ -51,6 +51,14 @@ impl<S: Shape> Solver<S> {
             phase: Phase::Stating,
             found: false,
         })
+    }
+
+    // A solver on the shape of a home, which holds exactly the home's points, with no rule; refused with the home's own fault.
+    pub fn open(home: &Home) -> Result<Solver<S>, SolverFault>
+        ensures answers { λ r. ⌜ view-if-any r ≡ open-call model (now (home .entry)) ⌝ }
+        ensures opens { λ r. ⌜ Opens model (now (home .entry)) (view-if-any r) ⌝ }
+    {
+        Solver::open_any(home)
     }
 
     // Puts a checkpoint of the shape and the count of rules after the others, of which there are at most 4.

@@ -6,7 +6,7 @@ use mathlib.Core.Path.{_≡_, refl, ap, sym, subst, _∙_}
 use lib.ListN.{length, take, getD, set}
 use Rattle.std.specs.Finite.{nth}
 use Rattle.std.specs.declared.option.Option.the-variants.{Some}
-use Rattle.std.proofs.shelf.Lists.{length-take, length-push, length-reverse, reverse-append, take-at, take-take, take-append-le, take-more-set, getD-take, getD-push}
+use Rattle.std.proofs.shelf.Lists.{length-take, length-take-le, reverse-reverse, length-push, length-reverse, reverse-append, take-at, take-take, take-append-le, take-more-set, getD-take, getD-push}
 use Rattle.std.proofs.shelf.Maps.{nth-getD}
 use Rattle.search_theory.specs.Promise.{Front}
 
@@ -17,6 +17,10 @@ module _ {A : Type 0} where
   -- the slice has those places
   pub front-fits : (k : ℕ) (xs ys : List A) → Front k xs ys → k ≤ length xs
   front-fits k xs ys f = let e = length-take k xs in let d = ap length (f .1) in omega (arith, e, d, f .0)
+
+  -- the first places hold what they hold
+  pub front-of : (k : ℕ) (xs : List A) → k ≤ length xs → Front k xs (reverse (reverse (take k xs)))
+  front-of k xs h = subst (Front k xs) (sym (reverse-reverse (take k xs))) (sym (length-take-le k xs h), refl)
 
   pub front-whole : (k : ℕ) (xs ys rest : List A) → Front k xs ys → Front k (xs ++ rest) ys
   front-whole k xs ys rest f = (f .0, take-append-le k xs rest (front-fits k xs ys f) ∙ f .1)

@@ -1,3 +1,4 @@
+pub mod Beside
 pub mod Cases
 pub mod Classifying
 pub mod Counting
@@ -6,12 +7,13 @@ pub mod Grounds
 pub mod Histories
 pub mod Invariant
 pub mod Limits
-pub mod Promise
 pub mod Portions
+pub mod Promise
 pub mod Readings
 pub mod Refining
 pub mod RunLaws
 pub mod RunKept
 pub mod Running
 pub mod Standing
+pub mod TwoRuns
 pub mod Walking

@@ -30,7 +30,7 @@ use Rattle.search_theory.specs.Standing.{shape-of, how-many, shapes-of}
 use Rattle.search_theory.specs.Walks.{Held, walk}
 use Rattle.search_theory.proofs.Fronts.{front-whole, front-lent}
 use Rattle.search_theory.proofs.Invariant.{Inv, world}
-use Rattle.search_theory.proofs.Running.{Tied, Run-as, run-as}
+use Rattle.search_theory.proofs.Running.{Tied, tied-start, Run-as, run-as}
 use Rattle.search_theory.proofs.Standing.{shape-holds}
 use Rattle.search_theory.proofs.Walking.{good-walk, room-walk}
 
@@ -63,15 +63,7 @@ module _ {S R : Type 0} {M : ShapeModel S} {K : RuleModel R} (L : ShapeLaws M) (
 
     module _ (fits : w .solver .waiting ≤ length (w .stack)) where
       pub the-run : Run-as M K (l .standing) (w .solver .found) out (length (w .stack)) (l .search .regions .handed) b 0 (l .search .regions) (end-by (l .standing))
-      the-run = run-as M K (l .standing) (w .solver .found) out (length (w .stack)) (l .search .regions .handed) b 0 (at-hand (w .solver) (w .stack) out) (l .search .regions) record {
-        of-stack = front-lent (w .solver .waiting) (w .stack) (reverse (l .search .regions .waiting)) deep fits (inv .ties .of-stack);
-        of-out = sym (append-nil (l .search .regions .handed));
-        of-count = omega arith;
-        of-found = (inl, ⊎-elim (λ e. e) (λ z. absurd (z refl)));
-        past-out = refl;
-        out-places = refl;
-        stack-places = refl;
-      }
+      the-run = run-as M K (l .standing) (w .solver .found) out (length (w .stack)) (l .search .regions .handed) b 0 (at-hand (w .solver) (w .stack) out) (l .search .regions) (tied-start (w .solver) (w .stack) out (l .search .regions) (front-lent (w .solver .waiting) (w .stack) (reverse (l .search .regions .waiting)) deep fits (inv .ties .of-stack)))
 
       -- in as many steps as it says
       pub tied-after : Tied (w .solver .found) out (length (w .stack)) (l .search .regions .handed) (end-by (l .standing) .work) (ledger-by (l .standing) .search .regions)

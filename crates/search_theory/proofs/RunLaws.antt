@@ -36,9 +36,9 @@ use Rattle.search_theory.specs.Standing.{Meets-rules, how-many, shapes-of}
 use Rattle.search_theory.specs.Walks.{Held, held, walk}
 use Rattle.search_theory.proofs.Cases.{err≢ok}
 use Rattle.search_theory.proofs.Counting.{how-many-reverse, all-reverse}
-use Rattle.search_theory.proofs.Fronts.{reverse-cons, front-fits}
+use Rattle.search_theory.proofs.Fronts.{front-of, front-fits}
 use Rattle.search_theory.proofs.Grounds.{none-hold, ok-same}
-use Rattle.search_theory.proofs.Running.{Tied, Ending, Run-as, run-as}
+use Rattle.search_theory.proofs.Running.{Tied, tied-start, Ending, Run-as, run-as}
 use Rattle.search_theory.proofs.Walking.{Good, good-walk, room-walk, split-has-room}
 
 abbrev Is-split : Fate → Type 0
@@ -103,15 +103,7 @@ module _ {S R : Type 0} (M : ShapeModel S) (K : RuleModel R) (s : Solving S) (ru
   seen = run-seen s rules stack out budget (report-of end) (after-run s end .solver) (end .work .stack) (end .work .out)
 
   at-start : Tied (s .found) out (length stack) [] (at-hand s stack out) begin
-  at-start = record {
-    of-stack = subst (Front (s .waiting) stack) (sym (reverse-reverse (take (s .waiting) stack))) (sym (length-take-le (s .waiting) stack fits), refl);
-    of-out = refl;
-    of-count = omega arith;
-    of-found = (inl, ⊎-elim (λ e. e) (λ z. absurd (z refl)));
-    past-out = refl;
-    out-places = refl;
-    stack-places = refl;
-  }
+  at-start = tied-start s stack out begin (front-of (s .waiting) stack fits)
 
   the-run : Run-as M K rs (s .found) out (length stack) [] budget 0 begin end
   the-run = run-as M K rs (s .found) out (length stack) [] budget 0 (at-hand s stack out) begin at-start

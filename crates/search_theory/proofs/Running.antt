@@ -12,7 +12,7 @@ use Rattle.std.specs.declared.option.Option.{Option}
 use Rattle.std.specs.declared.option.Option.the-variants.{Some, None}
 use Rattle.std.specs.declared.result.Result.{Result}
 use Rattle.std.specs.declared.result.Result.the-variants.{Ok, Err}
-use Rattle.std.proofs.shelf.Lists.{append-assoc, length-set, length-push, length-reverse, take-more-set, drop-set-lt, drop-drop}
+use Rattle.std.proofs.shelf.Lists.{append-assoc, append-nil, length-set, length-push, length-reverse, take-more-set, drop-set-lt, drop-drop}
 use Rattle.std.proofs.shelf.Tests.{cond-both, ltb-true, ltb-false, eqb-true, eqb-false}
 use Rattle.interface.specs.declared.point.Point.{Point}
 use Rattle.interface.specs.Rules.{RuleModel}
@@ -22,10 +22,12 @@ use Rattle.search_theory.specs.declared.fate.Fate.the-variants.{Dropped, Hande
 use Rattle.search_theory.specs.declared.outcome.Outcome.{Outcome}
 use Rattle.search_theory.specs.declared.outcome.Outcome.the-variants.{Done, Spent, ListFull, StackFull}
 use Rattle.search_theory.specs.declared.region.Region.{Region}
+use Rattle.search_theory.specs.Calls.{at-hand}
 use Rattle.search_theory.specs.Promise.{Front}
 use Rattle.search_theory.specs.Regions.{refine, classify}
 use Rattle.search_theory.specs.RunLaws.{Next-is}
 use Rattle.search_theory.specs.Runs.{Work, Ended, ended, go-on, handed-out, split-in, turn, take-up, step, run-from}
+use Rattle.search_theory.specs.Solving.{Solving}
 use Rattle.search_theory.specs.Walks.{Held, held, placed, walk-one, walk}
 use Rattle.search_theory.proofs.Fronts.{reverse-cons, front-fits, front-push, front-pop, front-last}
 
@@ -39,11 +41,23 @@ pub record Tied {S : Type 0} (found : Bool) (out : List (Region S)) (places : �
   pub out-places : length (w .out) ≡ length out
   pub stack-places : length (w .stack) ≡ places
 
+-- at the start of a run nothing is in the out slice
+pub tied-start : {S : Type 0} (s : Solving S) (stack : List S) (out : List (Region S)) (h : Held S) → Front (s .waiting) stack (reverse (h .waiting)) → Tied (s .found) out (length stack) (h .handed) (at-hand s stack out) h
+tied-start s stack out h f = record {
+  of-stack = f;
+  of-out = sym (append-nil (h .handed));
+  of-count = omega arith;
+  of-found = (inl, ⊎-elim (λ e. e) (λ z. absurd (z refl)));
+  past-out = refl;
+  out-places = refl;
+  stack-places = refl;
+}
+
 pushed≢[] : {A : Type 0} (xs : List A) (x : A) → xs ++ x ∷ [] ≢ []
 pushed≢[] xs x e = let n = length-push xs x in let d = ap length e in omega (arith, n, d)
 
 -- why a step of this fate cannot be made
-abbrev Stopped : {S : Type 0} → Work S → Fate → Outcome → Type 0
+abbrev pub Stopped : {S : Type 0} → Work S → Fate → Outcome → Type 0
 Stopped w f Done = ⊥
 Stopped w f Spent = ⊥
 Stopped w f ListFull = ((x : Point) × (f ≡ HandedOut x)) × (length (w .out) ≤ w .count)
@@ -51,11 +65,11 @@ Stopped w f StackFull = (f ≡ Split) × (length (w .stack) ≤ w .waiting)
 
 module _ {S R : Type 0} (M : ShapeModel S) (K : RuleModel R) (rs : List R) (found : Bool) (out : List (Region S)) (places : ℕ) (base : List (Region S)) where
   -- after the step the work is tied to the lists after it, or the step was not made for a reason
-  abbrev After-step : Work S → Fate → Held S → Result (Work S) Outcome → Type 0
+  abbrev pub After-step : Work S → Fate → Held S → Result (Work S) Outcome → Type 0
   After-step w f h (Ok v) = Tied found out places base v h
   After-step w f h (Err o) = Stopped w f o
 
-  after-turn : (w : Work S) (s : S) (ws : List S) (hs : List (Region S)) → Tied found out places base w (held (s ∷ ws) hs) → (t : S) (f : Fate) → After-step w f (placed M t f ws hs) (turn M K w t f)
+  pub after-turn : (w : Work S) (s : S) (ws : List S) (hs : List (Region S)) → Tied found out places base w (held (s ∷ ws) hs) → (t : S) (f : Fate) → After-step w f (placed M t f ws hs) (turn M K w t f)
   after-turn w s ws hs d t Dropped = record {
     of-stack = front-pop _ _ (reverse ws) s (subst (Front _ _) (reverse-cons s ws) (d .of-stack));
     of-out = d .of-out;
@@ -102,7 +116,7 @@ module _ {S R : Type 0} (M : ShapeModel S) (K : RuleModel R) (rs : List R) (foun
       } in
       cond-both (ltb (w .waiting) (length (w .stack))) _ _ (After-step w Split (held (low ∷ up ∷ ws) hs)) (λ e. made (ltb-true _ _ e)) (λ e. (refl, ltb-false _ _ e))
 
-  after-step : (w : Work S) (s : S) (ws : List S) (hs : List (Region S)) → Tied found out places base w (held (s ∷ ws) hs) → After-step w (classify M K rs (refine M K rs s)) (walk-one M K rs (s ∷ ws) hs) (step M K rs w)
+  pub after-step : (w : Work S) (s : S) (ws : List S) (hs : List (Region S)) → Tied found out places base w (held (s ∷ ws) hs) → After-step w (classify M K rs (refine M K rs s)) (walk-one M K rs (s ∷ ws) hs) (step M K rs w)
   after-step w s ws hs d =
       let top = front-last (w .waiting) (w .stack) (reverse ws) s (subst (Front _ _) (reverse-cons s ws) (d .of-stack)) in
       subst (λ o. After-step w (classify M K rs (refine M K rs s)) (walk-one M K rs (s ∷ ws) hs) (take-up M K rs w o)) (sym top) (after-turn w s ws hs d (refine M K rs s) (classify M K rs (refine M K rs s)))

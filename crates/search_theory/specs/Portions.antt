@@ -1,29 +1,27 @@
--- A search in portions: a run and then another does what one run of both budgets does. Assumes nothing.
-use Prim.Native.Nat.{ℕ, _+_}
+-- A run in two portions does what one run does. Assumes nothing.
+use Prim.Native.Nat.{ℕ, _+_, _≤_}
 use mathlib.Core.List.{List, _++_}
 use mathlib.Core.Logic.{_≢_}
 use mathlib.Core.Path.{_≡_}
-use lib.ListN.{take, drop}
-use Rattle.std.specs.declared.result.Result.{Result}
-use Rattle.std.specs.declared.result.Result.the-variants.{Ok, Err}
-use Rattle.interface.specs.declared.fault.SolverFault.{SolverFault}
+use lib.ListN.{length, take}
+use Rattle.std.specs.declared.result.Result.the-variants.{Ok}
 use Rattle.interface.specs.Rules.{RuleModel}
 use Rattle.interface.specs.Shapes.{ShapeModel}
 use Rattle.search_theory.specs.declared.outcome.Outcome.the-variants.{ListFull, StackFull}
 use Rattle.search_theory.specs.declared.region.Region.{Region}
 use Rattle.search_theory.specs.declared.report.Report.{Report}
 use Rattle.search_theory.specs.Calls.{run-call}
-use Rattle.search_theory.specs.Solving.{Solving, Left, left}
+use Rattle.search_theory.specs.Solving.{Solving, Left}
 
--- the report of two runs as of one
-abbrev pub both-reports : Report → Result Report SolverFault → Result Report SolverFault
-both-reports p (Ok r) = Ok (record { outcome = r .outcome; steps = p .steps + r .steps; count = p .count + r .count; found = r .found })
-both-reports p (Err f) = Err f
+-- the run of both budgets: its report is that of the second portion, with steps and regions of both, and solver and stack are left as by the second
+pub record As-both {S : Type 0} (first second once : Left S Report (List S × List (Region S))) (p q r : Report) : Type 0 where
+  pub outcome : r .outcome ≡ q .outcome
+  pub steps : r .steps ≡ p .steps + q .steps
+  pub found : r .found ≡ q .found
+  pub solver : once .solver ≡ second .solver
+  pub stack : once .slices .0 ≡ second .slices .0
+  pub regions : take (r .count) (once .slices .1) ≡ take (p .count) (first .slices .1) ++ take (q .count) (second .slices .1)
 
--- what two runs leave as one: the first reported p and put these regions at the front of the out slice
-abbrev pub both-runs : {S : Type 0} → Report → List (Region S) → Left S Report (List S × List (Region S)) → Left S Report (List S × List (Region S))
-both-runs p these l = left (both-reports p (l .reply)) (l .solver) (l .slices .0, these ++ l .slices .1)
-
--- a run that had its places, and then one that is lent the out places that are left, do what one run of both budgets does
-abbrev pub In-portions : {S R : Type 0} → ShapeModel S → RuleModel R → Solving S → List R → List S → List (Region S) → ℕ → Left S Report (List S × List (Region S)) → Type 0
-In-portions M K s rules stack out a l = (p : Report) → l .reply ≡ Ok p → p .outcome ≢ ListFull → p .outcome ≢ StackFull → (b : ℕ) → both-runs p (take (p .count) (l .slices .1)) (run-call M K (l .solver) rules (l .slices .0) (drop (p .count) (l .slices .1)) b) ≡ run-call M K s rules stack out (a + b)
+-- a run of budget a and then one of b, each with an out slice of its own, do what one of a + b does, given room: the first has not lacked a place, the second none for a region, and the one run has places for all regions
+abbrev pub Portions : {S R : Type 0} → ShapeModel S → RuleModel R → Type 0
+Portions {S} {R} M K = (s : Solving S) (rules : List R) (stack : List S) (a b : ℕ) (out out′ out″ : List (Region S)) (p q : Report) → let first = run-call M K s rules stack out a in let second = run-call M K (first .solver) rules (first .slices .0) out′ b in let once = run-call M K s rules stack out″ (a + b) in first .reply ≡ Ok p → second .reply ≡ Ok q → p .outcome ≢ ListFull → p .outcome ≢ StackFull → q .outcome ≢ ListFull → p .count + q .count ≤ length out″ → (r : Report) × (once .reply ≡ Ok r) × As-both first second once p q r

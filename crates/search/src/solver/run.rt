@@ -1,9 +1,9 @@
 // The call that runs a search.
 ghost use mathlib.Core.Path.{_≡_};
 ghost use Rattle.search_theory.specs.Calls.{run-call};
-ghost use Rattle.search_theory.specs.Portions.{In-portions};
 ghost use Rattle.search_theory.specs.RunLaws.{Run-laws};
 ghost use Rattle.search_theory.specs.Solving.{left};
+ghost use Rattle.search.specs.Meanings.{In-portions};
 ghost use Rattle.search.specs.Views.{view};
 use super::Solver;
 use super::stating;
@@ -57,7 +57,7 @@ impl<S: Shape> Solver<S> {
     ) -> Result<Report, SolverFault>
         ensures answers { λ r. ⌜ left r (view (now (self .exit))) (now (stack .exit), now (out .exit)) ≡ run-call (S·Shape .model) (R·Rule .model) (view (now (self .entry))) (now (rules .entry)) (now (stack .entry)) (now (out .entry)) budget ⌝ }
         ensures laws { λ r. ⌜ Run-laws (S·Shape .model) (R·Rule .model) (view (now (self .entry))) (now (rules .entry)) (now (stack .entry)) (now (out .entry)) budget (left r (view (now (self .exit))) (now (stack .exit), now (out .exit))) ⌝ }
-        ensures portions { λ r. ⌜ In-portions (S·Shape .model) (R·Rule .model) (view (now (self .entry))) (now (rules .entry)) (now (stack .entry)) (now (out .entry)) budget (left r (view (now (self .exit))) (now (stack .exit), now (out .exit))) ⌝ }
+        ensures portions { λ r. ⌜ In-portions (S·Shape .model) (R·Rule .model) (view (now (self .entry))) (now (rules .entry)) (now (stack .entry)) budget (left r (view (now (self .exit))) (now (stack .exit), now (out .exit))) ⌝ }
     {
         self.run_any(rules, stack, out, budget)
     }
