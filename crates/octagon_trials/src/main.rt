@@ -14,7 +14,8 @@ fn draw(seed: &mut u64, below: u32) -> u32
     requires { ⌜ 0 < below ⌝ }
     ensures { λ r. ⌜ r < below ⌝ }
 {
-    *seed = seed.wrapping_mul(6364136223846793005).wrapping_add(1442695040888963407);
+    *seed = seed.wrapping_mul(6364136223846793005)
+        .wrapping_add(1442695040888963407);
     (*seed >> 33) as u32 % below
 }
 
@@ -76,16 +77,15 @@ fn trial(rt: &LibcRuntime, seed: &mut u64) -> io::Result<()> {
     show(rt, &upper)
 }
 
-// A thousand cuts of eight settings, from the whole home again where none of it is left.
-fn thousand(seed: &mut u64, home: &Home, o: &mut Octagon) {
-    for _ in 0..1000u32 {
+// Ten cuts of eight settings, on a fresh octagon.
+fn ten(seed: &mut u64, fresh: &Octagon) -> Octagon {
+    let mut o = *fresh;
+    for _ in 0..10u32 {
         if let Some(t) = draw_cut(seed, 8, 1000) {
             o.cut(t);
         }
-        if o.extent().number() == 0 {
-            *o = Octagon::start(home);
-        }
     }
+    o
 }
 
 fn main(rt: LibcRuntime) -> io::Result<()> {
@@ -103,9 +103,12 @@ fn main(rt: LibcRuntime) -> io::Result<()> {
         lows: [-1000; 8],
         highs: [1000; 8],
     };
-    let mut o = Octagon::start(&home);
+    let fresh = Octagon::start(&home);
+    let mut o = fresh;
     for _ in 0..text.len() {
-        thousand(&mut seed, &home, &mut o);
+        for _ in 0..100u32 {
+            o = ten(&mut seed, &fresh);
+        }
     }
     show(&rt, &o)
 }
