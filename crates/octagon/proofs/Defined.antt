@@ -1,19 +1,17 @@
 -- What an octagon answers is what the limits of the home and the cuts that made it define.
 use Prim.Native.Nat.{ℕ, _+_, _-_, _*_, _/_, _%_, _<_, _≤_, min}
-use mathlib.Core.Bool.{Bool, true, false, cond, not, _&&_}
+use mathlib.Core.Bool.{Bool, true, false, cond}
 use mathlib.Core.List.{List, [], _∷_, _++_}
 use mathlib.Core.Logic.{_⊎_, inl, inr}
 use mathlib.Core.Path.{_≡_, refl, sym, ap, ap₂, subst, _∙_}
 use native.Mathlib.Omega.{arith}
 use lib.Dec.{ltb}
 use lib.IntN.{ℤ, pos, negℤ}
-use lib.ListN.{length, getD, drop, take, replicate}
-use lib.Signed.{_≤ℤ_}
+use lib.ListN.{length, getD, drop, replicate}
 use Rattle.std.specs.Orderings.{Decides}
-use Rattle.std.specs.declared.option.Option.{Option}
 use Rattle.std.specs.declared.option.Option.the-variants.{Some, None}
 use Rattle.std.proofs.shelf.Lists.{drop-at, ext-getD}
-use Rattle.std.proofs.shelf.Tests.{cases-bool, cases-lt, cond-true, cond-false, lt-ltb, le-ltb, and-from, both-ways}
+use Rattle.std.proofs.shelf.Tests.{cases-bool, cases-lt, cond-true, cond-false, lt-ltb, le-ltb, and-from}
 use Rattle.halving.specs.Halvings.{all-single, halvings-of}
 use Rattle.interface.specs.declared.cut.Cut.{Cut}
 use Rattle.interface.specs.declared.home.Home.{Home}
@@ -22,11 +20,11 @@ use Rattle.interface.specs.declared.extent.Extent.the-variants.{Void, Lone, Ope
 use Rattle.interface.specs.Cuts.{cut-of}
 use Rattle.interface.specs.Homes.{Passes}
 use Rattle.interface.specs.Numbers.{half}
-use Rattle.interface.specs.Points.{values-of, No-later}
+use Rattle.interface.specs.Points.{No-later}
 use Rattle.interface.specs.Shapes.{Made, cut-by, built, range-of}
 use Rattle.interface.proofs.Cuts.{cut-made}
 use Rattle.octagon_theory.specs.Limits.{void, limit}
-use Rattle.octagon_theory.specs.Matrices.{Tightly-closed, least-values}
+use Rattle.octagon_theory.specs.Matrices.{Tightly-closed}
 use Rattle.octagon_theory.specs.Theorems.{Within}
 use Rattle.octagon_theory.proofs.Exact.{limit-off, limits-tight, tight-same}
 use Rattle.octagon_theory.proofs.LeastPoint.{length-least-values}
@@ -38,10 +36,10 @@ use Rattle.octagon.specs.Entries.{at}
 use Rattle.octagon.specs.Octagons.{limit-at, offered, least-from, offer-of, cut-to, lower-of, upper-of, octagon-model}
 use Rattle.octagon.specs.Ranges.{low-at, high-at, widths, extent-by, is-open, widest-at, middle-at, up-to, from-next}
 use Rattle.octagon.proofs.Taking.{Octagon-of, limit-is}
-use Rattle.octagon.proofs.Holding.{holds-decides, offer-says, offered-is, least-is}
+use Rattle.octagon.proofs.Holding.{holds-decides, offered-is, least-is}
 use Rattle.octagon.proofs.Made.{made-of, built-of}
-use Rattle.octagon.proofs.Facts.{extent-at, is-void, halvings-are}
-use Rattle.octagon.proofs.Splitting.{Wide, wide, lower-cut, upper-cut, widths-are, lower-split, upper-split, lower-is, upper-is, lower-same, upper-same}
+use Rattle.octagon.proofs.Facts.{extent-at, halvings-are}
+use Rattle.octagon.proofs.Splitting.{lower-cut, upper-cut, widths-are, lower-split, upper-split, lower-is, upper-is, lower-same, upper-same}
 
 -- one cut more is one more at the end
 pub cut-by-more : (s : Octagon) (ts : List Cut) (t : Cut) → cut-by octagon-model s (ts ++ (t ∷ [])) ≡ cut-to (cut-by octagon-model s ts) (t .p) (t .q) (t .c)

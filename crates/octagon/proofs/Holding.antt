@@ -12,15 +12,12 @@ use lib.Signed.{_≤ℤ_, leZ}
 use borrow.Author.Differences.{ints}
 use Rattle.std.specs.Options.{isSome}
 use Rattle.std.specs.Orderings.{Decides}
-use Rattle.std.specs.declared.option.Option.{Option}
 use Rattle.std.specs.declared.option.Option.the-variants.{Some, None}
 use Rattle.std.specs.Iters.{counting}
 use Rattle.std.specs.Numbers.{maxZ}
 use Rattle.std.specs.shelf.Lists.{folded}
 use Rattle.std.proofs.shelf.Lists.{take-at, length-push}
-use Rattle.std.proofs.shelf.Tests.{cases-bool, and-parts, and-from, not-true, not-from-false, eqb-true, eq-eqb, both-ways, cond-true, cond-false}
-use Rattle.std.proofs.shelf.Ways.{decides-like}
-use Rattle.halving.specs.First.{every}
+use Rattle.std.proofs.shelf.Tests.{cases-bool, and-parts, and-from, not-true, not-from-false, eqb-true, eq-eqb, cond-true}
 use Rattle.halving.proofs.First.{every-decides}
 use Rattle.interface.specs.declared.cut.Cut.{Cut}
 use Rattle.interface.specs.declared.home.Home.{Home}
@@ -31,10 +28,9 @@ use Rattle.interface.specs.Points.{values-of}
 use Rattle.octagon_theory.specs.Limits.{void, limit}
 use Rattle.octagon_theory.specs.Matrices.{Tightly-closed, Below, next-value, least-values}
 use Rattle.octagon_theory.specs.Theorems.{Within}
-use Rattle.octagon_theory.proofs.Exact.{void-no-point, limits-tight, within-below, below-within, limits-exact}
+use Rattle.octagon_theory.proofs.Exact.{void-no-point, limits-tight, within-below, below-within}
 use Rattle.octagon_theory.proofs.LeastPoint.{extended, length-least-values, value-setting, value-negative}
 use Rattle.octagon_theory.proofs.Passing.{settings-bounds}
-use Rattle.octagon_theory.proofs.Theorems.{least-values-are-least}
 use Rattle.octagon.specs.declared.matrix.Octagon.{Octagon}
 use Rattle.octagon.specs.Entries.{at}
 use Rattle.octagon.specs.Octagons.{row-under, all-under, holds-at, narrow, least-from, offered, offer-of}

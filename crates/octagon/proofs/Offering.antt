@@ -2,16 +2,16 @@
 use Prim.Native.Nat.{ℕ, zero, suc, _+_, _-_, _*_, _/_, _%_, _<_, _≤_}
 use mathlib.Core.Bool.{Bool, _&&_}
 use mathlib.Core.List.{List, [], _∷_, _++_, map, append-assoc}
-use mathlib.Core.Path.{_≡_, refl, sym, ap, subst, _∙_}
+use mathlib.Core.Path.{_≡_, refl, sym, ap, _∙_}
 use native.Mathlib.Omega.{arith}
 use lib.IntN.{ℤ, pos, negℤ, _+ℤ_, _-ℤ_}
-use lib.ListN.{length, getD, take, drop, set, replicate, length-set}
+use lib.ListN.{length, take, drop, set, replicate, length-set}
 use lib.Signed.{leZ}
 use Rattle.std.specs.Iters.{counting}
 use Rattle.std.specs.Numbers.{maxZ}
 use Rattle.std.specs.shelf.Lists.{folded}
 use Rattle.std.proofs.shelf.Counted.{map-counting-more}
-use Rattle.std.proofs.shelf.Lists.{getD-take, take-more, take-more-set, take-set, drop-set-lt, drop-more, drop-drop, drop-replicate, length-take-le, take-append-drop, append-nil}
+use Rattle.std.proofs.shelf.Lists.{getD-take, take-more-set, drop-set-lt, drop-drop, drop-replicate, length-take-le, take-append-drop, append-nil}
 use Rattle.std.proofs.shelf.Sums.{folded-push}
 use Rattle.halving.specs.First.{every}
 use Rattle.interface.specs.Nodes.{value}

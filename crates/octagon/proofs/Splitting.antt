@@ -1,17 +1,17 @@
 -- The two cuts of a split: both exist, each halves the widest range, and each point of an open octagon meets exactly one.
 use Prim.Native.Nat.{ℕ, _+_, _*_, _<_, _≤_}
-use mathlib.Core.Bool.{Bool, true, false, cond, not, _&&_}
+use mathlib.Core.Bool.{true, false, not, _&&_}
 use mathlib.Core.List.{List, [], _∷_, _++_}
 use mathlib.Core.Logic.{_⊎_, inl, inr}
 use mathlib.Core.Path.{_≡_, refl, sym, ap, ap₂, subst, _∙_}
 use native.Mathlib.Omega.{arith}
 use lib.Dec.{ltb, eqb}
 use lib.IntN.{ℤ, pos, negℤ, _+ℤ_, _-ℤ_}
-use lib.ListN.{length, getD}
+use lib.ListN.{length}
 use lib.Signed.{_≤ℤ_}
 use borrow.Author.Differences.{ints}
-use Rattle.std.proofs.shelf.Tests.{cases-bool, cases-lt, lt-ltb, ne-eqb, and-from, not-from-false, not-true, and-parts, cond-true, cond-false, both-ways}
-use Rattle.halving.specs.Halvings.{halvings-of, widest-of, all-single, Halved-at}
+use Rattle.std.proofs.shelf.Tests.{cases-bool, cases-lt, lt-ltb, ne-eqb, and-from, not-from-false, not-true, and-parts, cond-true, cond-false}
+use Rattle.halving.specs.Halvings.{halvings-of, widest-of, all-single}
 use Rattle.halving.proofs.Lowers.{halving-lowers}
 use Rattle.interface.specs.declared.cut.Cut.{Cut}
 use Rattle.interface.specs.declared.home.Home.{Home}
@@ -21,7 +21,6 @@ use Rattle.interface.specs.Homes.{Passes}
 use Rattle.interface.specs.Nodes.{opp, value}
 use Rattle.interface.specs.Numbers.{half, within}
 use Rattle.octagon_theory.specs.Limits.{void, limit}
-use Rattle.octagon_theory.specs.Theorems.{Within}
 use Rattle.octagon_theory.proofs.Entries.{value-even, value-odd}
 use Rattle.octagon_theory.proofs.Halves.{half-is}
 use Rattle.octagon_theory.proofs.Passing.{both-within}
@@ -31,7 +30,7 @@ use Rattle.octagon.specs.Entries.{at}
 use Rattle.octagon.specs.Octagons.{cut-to, lower-of, upper-of}
 use Rattle.octagon.specs.Ranges.{low-at, high-at, width-at, widths, is-open, widest-at, middle-at, up-to, from-next}
 use Rattle.octagon.proofs.Taking.{Octagon-of, cut-of}
-use Rattle.octagon.proofs.Widths.{length-widths, getD-widths, widths-same, open-says, limit-small, ordered, width-is, off-width, inwards, narrower, void-width}
+use Rattle.octagon.proofs.Widths.{length-widths, getD-widths, widths-same, open-says, limit-small, width-is, off-width, inwards, narrower, void-width}
 use Rattle.octagon.proofs.Wrapping.{Small}
 
 -- a node with itself and a bound within two million make a cut
@@ -167,9 +166,6 @@ module _ (h : Home) (ok : Passes h) (ts : List Cut) where
 
 -- ---- the parts of an octagon
 module _ (h : Home) (ts : List Cut) (s : Octagon) (O : Octagon-of h ts s) where
-  L : ℕ → ℕ → ℤ
-  L = limit h ts
-
   pub widths-are : widths (at (s .limits)) ≡ widths (limit h ts)
   widths-are = widths-same (at (s .limits)) (limit h ts) (O .entries)
 

@@ -1,31 +1,29 @@
 -- What every made octagon is: the octagon of some home and cuts, with the limits that the definition gives them.
 use Prim.Native.Nat.{ℕ, _+_, _*_, _/_, _%_, _<_, _≤_, min}
-use mathlib.Core.Bool.{Bool, true, false, cond, not, _&&_, _||_}
+use mathlib.Core.Bool.{true, false, cond, not, _&&_, _||_}
 use mathlib.Core.List.{List, [], _∷_, _++_}
-use mathlib.Core.Logic.{_⊎_, inl, inr, _≢_}
+use mathlib.Core.Logic.{_⊎_, inl, inr}
 use mathlib.Core.Path.{_≡_, refl, sym, ap, ap₂, subst, _∙_}
 use native.Mathlib.Omega.{arith}
 use lib.Dec.{ltb, leb, eqb}
 use lib.IntN.{ℤ, pos, negℤ, _+ℤ_}
-use lib.ListN.{length, getD, replicate, length-replicate, getD-replicate}
-use lib.Signed.{_≤ℤ_, _<ℤ_, leZ, ltZ}
+use lib.ListN.{length, length-replicate, getD-replicate}
+use lib.Signed.{_≤ℤ_, leZ}
 use borrow.Author.Differences.{ints}
-use Rattle.std.proofs.shelf.Tests.{cases-bool, cases-eq, cases-lt, lt-ltb, le-ltb, le-leb, lt-leb, leb-true, leb-false, eq-eqb, ne-eqb, cond-true, cond-false, and-from, and-left, and-right, and-parts, or-left, or-right, or-cases, or-parts, or-from, both-ways, not-true, ltb-true}
+use Rattle.std.proofs.shelf.Tests.{cases-bool, cases-eq, cases-lt, lt-ltb, le-ltb, le-leb, lt-leb, leb-false, eq-eqb, ne-eqb, cond-true, cond-false, and-from, and-left, and-right, and-parts, or-left, or-right, or-parts, or-from, ltb-true}
 use Rattle.interface.specs.declared.cut.Cut.{Cut}
 use Rattle.interface.specs.declared.home.Home.{Home}
-use Rattle.interface.specs.CutBounds.{valid-cut}
 use Rattle.interface.specs.Homes.{low-of, high-of, Passes}
 use Rattle.interface.specs.Nodes.{opp}
 use Rattle.interface.specs.Numbers.{within}
 use Rattle.octagon_theory.specs.Limits.{top-of, void, limit}
-use Rattle.octagon_theory.specs.Matrices.{shortest, rounded}
 use Rattle.octagon_theory.specs.Theorems.{Same, One-more}
 use Rattle.octagon_theory.proofs.Exact.{limit-void, limit-off, limit-opposite}
 use Rattle.octagon_theory.proofs.Nodes.{opp-below}
 use Rattle.octagon_theory.proofs.Passing.{settings-bounds, range-bounds, top-bounded, top-apart}
 use Rattle.octagon_theory.proofs.Theorems.{limits-can-be-shown, home-alone, one-cut-at-a-time}
 use Rattle.octagon.specs.declared.matrix.Octagon.{Octagon}
-use Rattle.octagon.specs.Entries.{plus, at, tabled, top, home-limit, lowered-entry, lowered}
+use Rattle.octagon.specs.Entries.{plus, at, top, home-limit, lowered-entry, lowered}
 use Rattle.octagon.specs.Octagons.{started, limit-at, voided, idle, unmet, taken, cutting, cut-to}
 use Rattle.octagon.proofs.Filling.{length-tabled, at-tabled}
 use Rattle.octagon.proofs.Wrapping.{Small, wrapped-small, plus-small, lowered-is}
@@ -107,9 +105,6 @@ module _ (h : Home) (ts : List Cut) (s : Octagon) (O : Octagon-of h ts s) where
   small p q = small-from-within 2000000 (limit h ts p q) (limits-can-be-shown h (O .passes) ts .bounded p q)
 
   module _ (t : Cut) where
-    more : List Cut
-    more = ts ++ (t ∷ [])
-
     one : One-more h ts t
     one = one-cut-at-a-time h ts t
 
@@ -123,14 +118,10 @@ module _ (h : Home) (ts : List Cut) (s : Octagon) (O : Octagon-of h ts s) where
     emptied : void h (ts ++ (t ∷ [])) ≡ true → Octagon-of h (ts ++ (t ∷ [])) (voided s)
     emptied v = record { passes = O .passes; same-n = O .same-n; same-void = sym v; size = length-replicate 256 (pos 0); entries = λ p q a b. getD-replicate 256 (16 * p + q) (pos 0) (pos 0) (omega arith) ∙ sym (limit-void h (ts ++ (t ∷ [])) v p q) }
 
-    on-line : ℕ → Bool
-    on-line i = ltb i (2 * s .n)
-
     lowered-of : void h ts ≡ false → t .p < 2 * h .n → t .q < 2 * h .n → pos 0 ≤ℤ (t .c +ℤ limit h ts (opp (t .p)) (opp (t .q))) → Octagon-of h (ts ++ (t ∷ [])) (taken s (t .p) (t .q) (t .c))
     unfolding lowered
     lowered-of v a b k =
         let r = one .lowers v a b k in
-        let B = bounds-of t in
         let f : ℕ → ℕ → ℤ = λ i j. cond (ltb i (2 * s .n) && ltb j (2 * s .n)) (lowered-entry (s .limits) (opp (t .p)) (opp (t .q)) (t .c) i j) (at (s .limits) i j) in
         record {
           passes = O .passes;
@@ -201,9 +192,6 @@ module _ (h : Home) (ts : List Cut) (s : Octagon) (O : Octagon-of h ts s) where
     unfolding cut-to
     cut-of = by (cases-bool (idle s (t .p) (t .q) (t .c))) (cases-bool (unmet s (t .p) (t .q) (t .c)))
       where
-        P : Octagon → Type 0
-        P = Octagon-of h (ts ++ (t ∷ []))
-
         by : (idle s (t .p) (t .q) (t .c) ≡ true) ⊎ (idle s (t .p) (t .q) (t .c) ≡ false) → (unmet s (t .p) (t .q) (t .c) ≡ true) ⊎ (unmet s (t .p) (t .q) (t .c) ≡ false) → Octagon-of h (ts ++ (t ∷ [])) (cutting s (t .p) (t .q) (t .c))
         by (inl i) u = subst (Octagon-of h (ts ++ (t ∷ []))) (sym (cond-true (idle s (t .p) (t .q) (t .c)) s _ i)) (kept (idle-cut i))
         by (inr i) (inl u) =

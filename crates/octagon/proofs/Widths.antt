@@ -1,20 +1,18 @@
 -- The ranges of a home and its cuts: none is crossed, a cut widens none, and the widest of several values is split in two halves.
 use Prim.Native.Nat.{ℕ, _+_, _*_, _<_, _≤_}
-use mathlib.Core.Bool.{Bool, true, false, cond, not, _&&_}
-use mathlib.Core.List.{List, [], _∷_, _++_, map}
+use mathlib.Core.Bool.{true, false}
+use mathlib.Core.List.{List, [], _∷_, _++_}
 use mathlib.Core.Logic.{_⊎_, inl, inr}
-use mathlib.Core.Path.{_≡_, refl, sym, ap, ap₂, subst, _∙_}
+use mathlib.Core.Path.{_≡_, refl, sym, ap₂, subst, _∙_}
 use native.Mathlib.Omega.{arith}
 use lib.Dec.{eqb}
 use lib.IntN.{ℤ, pos, negsuc, negℤ, natAbs, _+ℤ_, _-ℤ_}
 use lib.ListN.{length, getD}
 use lib.Signed.{_≤ℤ_}
 use borrow.Author.Differences.{ints}
-use Rattle.std.specs.Iters.{counting}
 use Rattle.std.proofs.shelf.Counted.{getD-map-counting, length-map-counting}
 use Rattle.std.proofs.shelf.Lists.{getD-past}
 use Rattle.std.proofs.shelf.Tests.{cases-bool, cases-lt, eqb-true, eq-eqb, both-ways}
-use Rattle.halving.specs.First.{every}
 use Rattle.halving.specs.Halvings.{width, widest-of, all-single, Narrower}
 use Rattle.halving.proofs.First.{every-decides}
 use Rattle.halving.proofs.Places.{Widest, widest-is}
@@ -105,9 +103,6 @@ module _ (h : Home) (ok : Passes h) (ts : List Cut) where
 
 -- ---- one cut more
 module _ (h : Home) (ok : Passes h) (ts : List Cut) (t : Cut) where
-  more : List Cut
-  more = ts ++ (t ∷ [])
-
   -- no end of a range moves outwards
   pub inwards : void h (ts ++ (t ∷ [])) ≡ false → (k : ℕ) → k < h .n → (low-at (limit h ts) k ≤ℤ low-at (limit h (ts ++ (t ∷ []))) k) × (high-at (limit h (ts ++ (t ∷ []))) k ≤ℤ high-at (limit h ts) k)
   inwards v k b =

@@ -1,11 +1,10 @@
 -- Sums that stay far below 32 bits do not wrap, so a cut on bounded entries is the least of the five ways, rounded and joined.
-use Prim.Native.Nat.{ℕ, _+_, _*_, _<_, _≤_, _^_}
-use mathlib.Core.Bool.{Bool, true, false}
+use Prim.Native.Nat.{ℕ, _<_}
 use mathlib.Core.List.{List}
-use mathlib.Core.Path.{_≡_, refl, sym, ap, ap₂, subst, _∙_}
+use mathlib.Core.Path.{_≡_, ap, ap₂, _∙_}
 use native.Mathlib.Omega.{arith}
 use lib.IntN.{ℤ, pos, negsuc, negℤ, _+ℤ_}
-use lib.Signed.{_≤ℤ_, mag}
+use lib.Signed.{_≤ℤ_}
 use mir.Syntax.{w32}
 use mir.Val.{SFits}
 use borrow.Author.Differences.{ints}
@@ -15,7 +14,7 @@ use Rattle.std.proofs.shelf.Signed.{clamps, wrapped-fits}
 use Rattle.interface.specs.Numbers.{half}
 use Rattle.octagon_theory.specs.Matrices.{shortest, rounded}
 use Rattle.octagon_theory.proofs.Halves.{half-is}
-use Rattle.octagon.specs.Entries.{plus, at, way, over-cut, crossed, halved, lowered-entry}
+use Rattle.octagon.specs.Entries.{plus, at, way, over-cut, crossed, lowered-entry}
 
 -- z lies from -b to b
 abbrev pub Small : ℕ → ℤ → Type 0

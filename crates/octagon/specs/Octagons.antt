@@ -1,21 +1,16 @@
 -- What the octagon answers, on every value of its type. Assumes nothing.
-use Prim.Native.Nat.{ℕ, zero, suc, _+_, _-_, _*_, _/_, _%_, min}
+use Prim.Native.Nat.{ℕ, zero, suc, _+_, _-_, _*_, min}
 use mathlib.Core.Bool.{Bool, true, false, cond, not, _&&_, _||_}
-use mathlib.Core.List.{List, [], _∷_, _++_, map}
+use mathlib.Core.List.{List, [], _∷_, _++_}
 use lib.Dec.{ltb, leb, eqb}
 use lib.IntN.{ℤ, pos, negℤ, _+ℤ_}
-use lib.ListN.{length, getD, replicate}
+use lib.ListN.{length, replicate}
 use lib.Signed.{leZ, ltZ}
 use Rattle.std.specs.declared.option.Option.{Option}
 use Rattle.std.specs.declared.option.Option.the-variants.{Some, None}
-use Rattle.std.specs.Iters.{counting}
-use Rattle.interface.specs.declared.cut.Cut.{Cut}
-use Rattle.interface.specs.declared.extent.Extent.{Extent}
-use Rattle.interface.specs.declared.extent.Extent.the-variants.{Void, Lone, Open}
 use Rattle.interface.specs.declared.home.Home.{Home}
 use Rattle.interface.specs.declared.point.Point.{Point}
 use Rattle.interface.specs.Nodes.{opp, value}
-use Rattle.interface.specs.Numbers.{half}
 use Rattle.octagon_theory.specs.Matrices.{next-value}
 use Rattle.halving.specs.First.{every}
 use Rattle.halving.specs.Halvings.{halvings-of}

@@ -1,6 +1,6 @@
 // What one cut makes of the limits: the shortest of five ways, then rounded halves, all in two passes over the rows.
 ghost use mathlib.Core.Path.{_≡_};
-ghost use Prim.Native.Nat.{ℕ, _+_, _*_, _<_, _≤_, min};
+ghost use Prim.Native.Nat.{_+_, _*_, _<_, _≤_, min};
 ghost use lib.IntN.{pos};
 ghost use lib.ListN.{getD};
 ghost use Rattle.std.specs.Numbers.{minZ};

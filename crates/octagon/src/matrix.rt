@@ -1,11 +1,11 @@
 // The octagon: a matrix of limits, made from a home and cut.
 ghost use mathlib.Core.Path.{_≡_};
-ghost use Prim.Native.Nat.{_*_, _<_, _≤_, min};
-ghost use lib.IntN.{pos, negℤ};
+ghost use Prim.Native.Nat.{_*_, _<_};
+ghost use lib.IntN.{negℤ};
 ghost use mir.Syntax.{w32};
 ghost use Rattle.std.specs.shelf.Signed.{wrapped};
-ghost use Rattle.octagon.specs.Entries.{plus, at, tabled, top, home-limit};
-ghost use Rattle.octagon.specs.Octagons.{started, limit-at, voided, idle, unmet, cutting, cut-to};
+ghost use Rattle.octagon.specs.Entries.{tabled, top, home-limit};
+ghost use Rattle.octagon.specs.Octagons.{started, limit-at, idle, unmet, cutting, cut-to};
 use super::lowering::lower;
 use super::lowering::nodes;
 use super::lowering::sum;

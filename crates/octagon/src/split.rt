@@ -1,10 +1,9 @@
 // How an octagon is split, and how often it can be: its ranges alone decide.
 ghost use mathlib.Core.Path.{_≡_};
-ghost use Prim.Native.Nat.{ℕ, _+_, _*_, _<_, _≤_};
-ghost use lib.IntN.{pos, negℤ, _+ℤ_};
+ghost use Prim.Native.Nat.{_+_, _*_, _<_};
+ghost use lib.IntN.{pos, negℤ};
 ghost use lib.Signed.{_≤ℤ_};
 ghost use Rattle.halving.specs.Halvings.{halvings-of};
-ghost use Rattle.interface.specs.Numbers.{half};
 ghost use Rattle.octagon.specs.Entries.{at};
 ghost use Rattle.octagon.specs.Octagons.{lower-of, upper-of};
 ghost use Rattle.octagon.specs.Ranges.{low-at, high-at, width-at, widths, extent-by, is-open, widest-at, middle-at, up-to, from-next};

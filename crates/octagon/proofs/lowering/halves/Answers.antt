@@ -1,5 +1,5 @@
-use mathlib.Core.Path.{_≡_, _∙_, ap, sym}
-use lib.IntN.{ℤ, pos}
+use mathlib.Core.Path.{_≡_, _∙_, ap}
+use lib.IntN.{pos}
 use lib.ListN.{getD}
 use mir.Syntax.{w32}
 use mir.Val.{SFits}

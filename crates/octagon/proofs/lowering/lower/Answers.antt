@@ -1,7 +1,7 @@
-use Prim.Native.Nat.{min, _*_, _<_}
-use mathlib.Core.Path.{_≡_, sym, subst, _∙_}
+use Prim.Native.Nat.{min, _*_}
+use mathlib.Core.Path.{_≡_, subst}
 use lib.IntN.{pos}
-use lib.ListN.{getD, length}
+use lib.ListN.{getD}
 use mir.Syntax.{w32}
 use mir.Val.{SFits}
 use native.Mathlib.Omega.{arith}

@@ -1,4 +1,4 @@
-use mathlib.Core.Path.{_∙_, ap, sym, _≡_, subst}
+use mathlib.Core.Path.{_∙_, _≡_, subst}
 use mir.Syntax.{w32}
 use mir.Val.{SFits}
 use native.Mathlib.Omega.{arith}

@@ -1,5 +1,5 @@
 use Prim.Native.Nat.{ℕ, _*_, _+_}
-use mathlib.Core.Path.{_∙_, ap, sym, _≡_}
+use mathlib.Core.Path.{_∙_, ap, _≡_}
 use mathlib.Core.List.{map}
 use lib.IntN.{ℤ, negℤ, _-ℤ_}
 use mir.Syntax.{w32, w64}

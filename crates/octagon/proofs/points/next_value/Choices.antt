@@ -2,7 +2,6 @@ use Prim.Native.Nat.{_*_, _+_}
 use mathlib.Core.List.{map}
 use mathlib.Core.Path.{_≡_}
 use lib.IntN.{negℤ, _-ℤ_}
-use lib.ListN.{take}
 use Rattle.std.specs.Iters.{counting}
 use Rattle.std.specs.Numbers.{maxZ}
 use Rattle.std.specs.shelf.Lists.{folded}
