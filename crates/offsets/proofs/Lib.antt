@@ -1,2 +1,4 @@
+pub mod Answering
+pub mod Halvings
 pub mod Memories
 pub mod Passing

@@ -4,6 +4,7 @@ ghost use Prim.Native.Nat.{_≤_};
 ghost use lib.ListN.{length};
 ghost use Rattle.octagon.specs.Octagons.{octagon-model};
 ghost use Rattle.offsets.specs.Entry.{entry-frames, problem-frames, opened-frames, room-in};
+ghost use Rattle.offsets.specs.Truth.{entry-count, entry-output, Tells-truly};
 ghost use Rattle.problem.specs.Problems.{stated-by};
 ghost use Rattle.report_lines.specs.Appending.{lines, put-frames};
 ghost use Rattle.std.specs.declared.result.Result.the-variants.{Ok};
@@ -29,4 +30,19 @@ fn answer_into(input: &[u8], budget: u32, output: &mut [u8]) -> usize
         Ok(problem) => solve_problem(&problem, budget, output),
         Err(refusal) => put_refusal(output, 0, refusal.fault, refusal.line),
     }
+}
+
+// Solves the problem that a text states with at most so many steps, and writes the lines that answer it from the
+// output's front on; 0 and nothing written where the output has fewer than 1,897 bytes.
+#[unsafe(no_mangle)]
+pub extern "C" fn offsets_solve(input: &[u8], budget: u32, output: &mut [u8]) -> usize
+    ensures count { λ r. ⌜ r ≡ entry-count octagon-model (now (input .entry)) budget (length (now (output .entry))) ⌝ }
+    ensures writes { λ _. ⌜ now (output .exit) ≡ entry-output octagon-model (now (input .entry)) budget (now (output .entry)) ⌝ }
+    ensures bound { λ r. ⌜ r ≤ length (now (output .entry)) ⌝ }
+    ensures truth { λ _. ⌜ Tells-truly octagon-model (now (input .entry)) budget (length (now (output .entry))) ⌝ }
+{
+    if output.len() < 1897 {
+        return 0;
+    }
+    answer_into(input, budget, output)
 }

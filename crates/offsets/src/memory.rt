@@ -38,7 +38,12 @@ fn empty_point() -> Point
 }
 
 // Solves the problem with a solver that was opened on its home: 32 rules, 4 checkpoints, 169 waiting regions.
-pub fn solve_opened(solver: &mut Solver<Octagon>, problem: &Problem, budget: u32, output: &mut [u8]) -> usize
+pub fn solve_opened(
+    solver: &mut Solver<Octagon>,
+    problem: &Problem,
+    budget: u32,
+    output: &mut [u8],
+) -> usize
     ensures { λ r. ⌜ lines (now (output .exit)) r ≡ put-frames (lines (now (output .entry)) 0) (let m = memory octagon-model (octagon-model .start (now (problem .entry) .home)) (room-in (length (now (output .entry)))) in answered-in octagon-model (world-of (now (solver .entry)) (m .rules) (m .checkpoints) (m .stack)) (m .out) (rules-in (now (problem .entry))) budget) ⌝ }
 {
     let shape = Octagon::start(&problem.home);
@@ -48,5 +53,14 @@ pub fn solve_opened(solver: &mut Solver<Octagon>, problem: &Problem, budget: u32
     let point = empty_point();
     let mut regions = [Region { shape, point }; 16];
     let room = region_room(output.len());
-    search_in(solver, &mut rules, &mut checkpoints, &mut stack, &mut regions[0..room], problem.stated(), budget, output)
+    search_in(
+        solver,
+        &mut rules,
+        &mut checkpoints,
+        &mut stack,
+        &mut regions[0..room],
+        problem.stated(),
+        budget,
+        output,
+    )
 }

@@ -61,7 +61,11 @@ fn put_reply(reply: Reply, regions: &[Region<Octagon>], output: &mut [u8]) -> us
 }
 
 // The lines that tell a run's answer.
-pub fn put_answer(answer: Result<Reply, SolverFault>, regions: &[Region<Octagon>], output: &mut [u8]) -> usize
+pub fn put_answer(
+    answer: Result<Reply, SolverFault>,
+    regions: &[Region<Octagon>],
+    output: &mut [u8],
+) -> usize
     ensures { λ r. ⌜ lines (now (output .exit)) r ≡ put-frames (lines (now (output .entry)) 0) (answer-frames octagon-model answer (now (regions .entry))) ⌝ }
 {
     match answer {

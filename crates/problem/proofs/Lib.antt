@@ -1,2 +1,3 @@
 pub mod FirstBytes
 pub mod Lines
+pub mod Sound

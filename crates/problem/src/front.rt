@@ -6,5 +6,9 @@ ghost use lib.ListN.{take};
 pub fn front<T>(items: &[T], count: usize) -> &[T]
     ensures { λ r. ⌜ now r ≡ take count (now (items .entry)) ⌝ }
 {
-    if count < items.len() { &items[0..count] } else { items }
+    if count < items.len() {
+        &items[0..count]
+    } else {
+        items
+    }
 }

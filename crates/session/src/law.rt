@@ -8,11 +8,9 @@ ghost use Rattle.session.specs.Promised.{Promise-whole};
 // Everything that is promised, limits and refusals among it, at the octagon.
 pub fn octagon_keeps_the_promise()
     ensures { λ _. ⌜ Promise-whole octagon-model any-model ⌝ }
-{
-}
+{}
 
 // At the interval box everything that is promised of every shape; it is not exact, so nothing of limits that are reached.
 pub fn interval_box_keeps_the_promise()
     ensures { λ _. ⌜ Promise box-model any-model ⌝ }
-{
-}
+{}

@@ -6,7 +6,7 @@ use mathlib.Core.Logic.{_≢_, _↔_}
 use mathlib.Core.Path.{_≡_, refl, sym, ap, subst, _∙_}
 use lib.Dec.{ltb, leb, eqb}
 use lib.IntN.{ℤ}
-use lib.ListN.{length, take, set, length-set, length-append}
+use lib.ListN.{length, take, set, length-set, length-take}
 use native.Mathlib.Omega.{arith}
 use Rattle.std.proofs.shelf.Lists.{append-nil, length-push, reverse-reverse}
 use Rattle.std.proofs.shelf.Tests.{le-ltb, lt-leb, ne-eqb, or-from, le-leb, and-from}
@@ -215,6 +215,12 @@ module _ {S R : Type 0} {M : ShapeModel S} {K : RuleModel R} (L : ShapeLaws M) (
           let P : Home → List R → Type 0 = λ b st. (ending .work .found ≡ false) ↔ ((x : List ℤ) → Setting K b st x → ⊥) in
           subst (P h) is-standing (subst (λ b. P b (c .after .standing)) is-home (kept .truthful-found (report-of ending) with-report done))
 
+      is-few : length (take (ending .work .count) (a .out)) ≤ length (m .out)
+      is-few =
+          let places = run-laws L J (w .solver) (w .rules) (w .stack) (m .out) budget (report-of ending) ran .1 .out-places .1 in
+          let taken = length-take (ending .work .count) (a .out) in
+          omega (arith, places, taken)
+
       has-room : 1 + M .halvings (shape-of M K h rs) ≤ length (m .stack) → ending .outcome ≢ StackFull
       has-room enough =
           kept .stack-suffices
@@ -236,4 +242,5 @@ module _ {S R : Type 0} {M : ShapeModel S} {K : RuleModel R} (L : ShapeLaws M) (
           found = is-found h m l w rs (begun .1) budget;
           room = has-room h m l w rs (begun .1) budget;
         },
+        is-few h m l w rs (begun .1) budget,
       )

@@ -74,6 +74,6 @@ module _ {S R : Type 0} (M : ShapeModel S) (K : RuleModel R) where
     pub places : length rs ≤ length (m .rules)
     pub some-stack : 0 < length (m .stack)
 
-  -- the run is accepted, and its report is true
+  -- the run is accepted, its report is true, and what it handed out had its places in the out slice
   abbrev pub Solves-truly : Type 0
-  Solves-truly = (h : Home) (m : Slices S R) (rs : List R) → Solvable h m rs → (budget : ℕ) → (p : Report) × (solved h m rs budget .reply ≡ Ok (Ran p)) × True-of M K h rs (length (m .stack)) p (take (p .count) (solved h m rs budget .out))
+  Solves-truly = (h : Home) (m : Slices S R) (rs : List R) → Solvable h m rs → (budget : ℕ) → (p : Report) × (solved h m rs budget .reply ≡ Ok (Ran p)) × True-of M K h rs (length (m .stack)) p (take (p .count) (solved h m rs budget .out)) × (length (take (p .count) (solved h m rs budget .out)) ≤ length (m .out))

@@ -19,6 +19,6 @@ returns c =
     let r = c .call-answer .last in
     c .put-answer .ensures
     ∙ two-calls {W = World Octagon AnyRule} {O = List (Region Octagon)} {A = Answered Octagon AnyRule} (λ a. a .world) (λ a. a .out) (λ w o. answer octagon-model any-model w o Begin) (λ w o. answer octagon-model any-model w o (Run (c .args .budget))) (λ a. put-frames (lines (c .args .output .now) 0) (answer-frames octagon-model (a .reply) (a .out)))
-      (world-of (s .solver) (s .rules) (s .checkpoints) (s .stack)) _ (world-of (b .solver) (b .rules) (b .checkpoints) (b .stack)) (s .out) (c .args .out .now) (b .out)
-      (answered-by (c .call .result) (world-of (b .solver) (b .rules) (b .checkpoints) (b .stack)) (b .out)) (answered-by (c .call-answer .result) (world-of (r .solver) (r .rules) (r .checkpoints) (r .stack)) (r .out))
-      (c .state-all .ensures .world) (c .state-all .ensures .out) (λ x y. refl) (c .call .ensures .answers) refl refl (c .call-answer .ensures .answers)
+    (world-of (s .solver) (s .rules) (s .checkpoints) (s .stack)) _ (world-of (b .solver) (b .rules) (b .checkpoints) (b .stack)) (s .out) (c .args .out .now) (b .out)
+    (answered-by (c .call .result) (world-of (b .solver) (b .rules) (b .checkpoints) (b .stack)) (b .out)) (answered-by (c .call-answer .result) (world-of (r .solver) (r .rules) (r .checkpoints) (r .stack)) (r .out))
+    (c .state-all .ensures .world) (c .state-all .ensures .out) (λ x y. refl) (c .call .ensures .answers) refl refl (c .call-answer .ensures .answers)
