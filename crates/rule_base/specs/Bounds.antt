@@ -16,6 +16,7 @@ use Rattle.interface.specs.Readings.{limit-at}
 abbrev pub between : ℤ → ℤ → ℤ → Bool
 between low high z = leZ low z && leZ z high
 
+-- y and z are the same number
 abbrev pub equal : ℤ → ℤ → Bool
 equal y z = leZ y z && leZ z y
 

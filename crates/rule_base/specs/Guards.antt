@@ -25,6 +25,7 @@ pub record Core (R : Type 0) : Type 0 where
   pub standing : R → Option Cut
   pub proposed : R → Reading → ℕ → Option Cut
 
+-- nothing is tried before all
 abbrev pub verdict : Bool → Bool → Verdict
 verdict nothing all = cond nothing Nothing (cond all All Unknown)
 

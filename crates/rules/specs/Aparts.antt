@@ -30,6 +30,7 @@ b-field = field 2 w8 false
 abbrev d-field : Field
 d-field = field 3 w32 true
 
+-- a, then b, not on the line; one setting twice; d not from 1 to two million
 abbrev pub apart-grounds : ℕ → ApartRule → List (Bool × RecordFault)
 apart-grounds n r =
     (leb n (r .a), Node (field-place a-field)) ∷ (leb n (r .b), Node (field-place b-field))
@@ -48,6 +49,7 @@ all-near d low high = ltZ high d && ltZ (negℤ d) low
 abbrev pub all-far : ℤ → ℤ → ℤ → Bool
 all-far d low high = leZ d low || leZ high (negℤ d)
 
+-- in the point x the settings a and b differ by at least d
 abbrev pub apart-meets : ApartRule → List ℤ → Bool
 apart-meets r x = far (r .d) (getD x (r .a) (pos 0) -ℤ getD x (r .b) (pos 0))
 
@@ -62,6 +64,7 @@ greatest-gap r g = limit-at g (2 * r .a) (2 * r .b + 1)
 abbrev pub apart-cut : ApartRule → Reading → Option Cut
 apart-cut r g = cond (ltZ (greatest-gap r g) (r .d)) (cut-at (2 * r .a) (2 * r .b + 1) (negℤ (r .d))) (cond (ltZ (negℤ (r .d)) (least-gap r g)) (cut-at (2 * r .a + 1) (2 * r .b) (negℤ (r .d))) None)
 
+-- no standing cut, and no cut but cut 0
 abbrev pub apart-core : Core ApartRule
 apart-core = record {
   grounds = apart-grounds;
@@ -72,6 +75,7 @@ apart-core = record {
   proposed = λ r g i. cond (eqb i 0) (apart-cut r g) None;
 }
 
+-- the frame: 05, a, b, d
 abbrev pub apart-codec : Codec ApartRule
 apart-codec = record {
   code = 5;

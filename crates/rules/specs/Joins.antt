@@ -8,6 +8,7 @@ abbrev pub either : {A B C : Type 0} → (A → C) → (B → C) → Joined A B 
 either f g (First a) = f a
 either f g (Second b) = g b
 
+-- every answer is that of the rule inside
 abbrev pub joined : {A B : Type 0} → RuleModel A → RuleModel B → RuleModel (Joined A B)
 joined K M = record {
   check = λ n. either (K .check n) (M .check n);

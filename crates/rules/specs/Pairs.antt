@@ -32,12 +32,14 @@ q-field = field 2 w8 false
 abbrev c-field : Field
 c-field = field 3 w32 true
 
+-- p, then q, not on the line; opposite nodes; c beyond two million
 abbrev pub pair-grounds : ℕ → PairRule → List (Bool × RecordFault)
 pair-grounds n r =
     (leb (2 * n) (r .p), Node (field-place p-field)) ∷ (leb (2 * n) (r .q), Node (field-place q-field))
     ∷ (eqb (r .q) (opp (r .p)), Clash (field-place q-field))
     ∷ (not (within 2000000 (r .c)), Number (field-place c-field)) ∷ []
 
+-- the point x keeps v(p) + v(q) at most c
 abbrev pub pair-meets : PairRule → List ℤ → Bool
 pair-meets r x = leZ (value x (r .p) +ℤ value x (r .q)) (r .c)
 
@@ -45,6 +47,7 @@ pair-meets r x = leZ (value x (r .p) +ℤ value x (r .q)) (r .c)
 abbrev pub pair-none : PairRule → Reading → Bool
 pair-none r g = ltZ (r .c) (negℤ (limit-at g (opp (r .p)) (opp (r .q))))
 
+-- v(p) + v(q) is at most the limit
 abbrev pub pair-all : PairRule → Reading → Bool
 pair-all r g = leZ (limit-at g (r .p) (r .q)) (r .c)
 
@@ -52,6 +55,7 @@ pair-all r g = leZ (limit-at g (r .p) (r .q)) (r .c)
 abbrev pub pair-cut : PairRule → Option Cut
 pair-cut r = cut-at (r .p) (r .q) (r .c)
 
+-- the standing cut and cut 0 are the rule itself
 abbrev pub pair-core : Core PairRule
 pair-core = record {
   grounds = pair-grounds;
@@ -62,6 +66,7 @@ pair-core = record {
   proposed = λ r g i. cond (eqb i 0) (pair-cut r) None;
 }
 
+-- the frame: 02, p, q, c
 abbrev pub pair-codec : Codec PairRule
 pair-codec = record {
   code = 2;

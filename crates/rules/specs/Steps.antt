@@ -35,14 +35,17 @@ m-field = field 2 w32 true
 abbrev r-field : Field
 r-field = field 6 w32 true
 
+-- a not on the line; m not from 2 to a million; r not from 0 to m - 1
 abbrev pub step-grounds : ℕ → StepRule → List (Bool × RecordFault)
 step-grounds n r =
     (leb n (r .a), Node (field-place a-field))
     ∷ (not (between (pos 2) (pos 1000000) (r .m)), Number (field-place m-field)) ∷ (not (leZ (pos 0) (r .r) && ltZ (r .r) (r .m)), Number (field-place r-field)) ∷ []
 
+-- z divided by m leaves r
 abbrev pub leaves : StepRule → ℤ → Bool
 leaves r z = equal (rest (r .m) z) (r .r)
 
+-- in the point x the setting a leaves r
 abbrev pub step-meets : StepRule → List ℤ → Bool
 step-meets r x = leaves r (getD x (r .a) (pos 0))
 
@@ -77,9 +80,11 @@ none-leaves r low high = ltZ (last-up-to r high) low
 abbrev pub one-leaves : StepRule → ℤ → ℤ → Bool
 one-leaves r low high = equal low high && leaves r low
 
+-- cut 0 bounds the setting from above, cut 1 its negative
 abbrev pub step-cut : StepRule → Reading → ℕ → Option Cut
 step-cut r g i = cond (eqb i 0) (bounded (2 * r .a) (last-up-to r (high-in g (r .a)))) (cond (eqb i 1) (bounded (2 * r .a + 1) (negℤ (first-from r (low-in g (r .a))))) None)
 
+-- no standing cut
 abbrev pub step-core : Core StepRule
 step-core = record {
   grounds = step-grounds;
@@ -90,6 +95,7 @@ step-core = record {
   proposed = step-cut;
 }
 
+-- the frame: 06, a, m, r
 abbrev pub step-codec : Codec StepRule
 step-codec = record {
   code = 6;

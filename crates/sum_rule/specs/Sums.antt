@@ -27,6 +27,7 @@ use Rattle.rule_base.specs.Guards.{Core}
 unfoldable pub times : ℤ → ℤ → ℤ
 times k z = k *ℤ z
 
+-- the coefficient is 0: no term
 abbrev pub is-empty : Term → Bool
 is-empty u = equal (u .coefficient) (pos 0)
 
@@ -48,6 +49,7 @@ coefficient-field i = field (2 + 2 * i) w8 true
 abbrev t-field : Field
 t-field = field 7 w32 true
 
+-- a setting not on the line; one setting in two terms that are not 0; a wrong coefficient, then t; no term at all
 abbrev pub sum-grounds : ℕ → SumRule → List (Bool × RecordFault)
 sum-grounds n r =
     (leb n (r .first .setting), Node (field-place (setting-field 0)))
@@ -72,9 +74,11 @@ least-of g u = times (u .coefficient) (cond (ltZ (u .coefficient) (pos 0)) (high
 abbrev pub greatest-of : Reading → Term → ℤ
 greatest-of g u = times (u .coefficient) (cond (ltZ (u .coefficient) (pos 0)) (low-in g (u .setting)) (high-in g (u .setting)))
 
+-- the total over the three terms
 abbrev pub three : (Term → ℤ) → SumRule → ℤ
 three f r = (f (r .first) +ℤ f (r .second)) +ℤ f (r .third)
 
+-- the total at the point x, or the least or greatest within the reading, against t
 abbrev pub sum-meets : SumRule → List ℤ → Bool
 sum-meets r x = leZ (three (term-at x) r) (r .t)
 
@@ -92,9 +96,11 @@ left-for r g v w = r .t -ℤ (least-of g v +ℤ least-of g w)
 abbrev pub term-cut : SumRule → Reading → Term → Term → Term → Option Cut
 term-cut r g u v w = cond (is-empty u) None (bounded (cond (ltZ (u .coefficient) (pos 0)) (2 * u .setting + 1) (2 * u .setting)) (divEuclid (left-for r g v w) (pos (natAbs (u .coefficient)))))
 
+-- cut i bounds the setting of term i
 abbrev pub sum-cut : SumRule → Reading → ℕ → Option Cut
 sum-cut r g i = cond (eqb i 0) (term-cut r g (r .first) (r .second) (r .third)) (cond (eqb i 1) (term-cut r g (r .second) (r .first) (r .third)) (cond (eqb i 2) (term-cut r g (r .third) (r .first) (r .second)) None))
 
+-- no standing cut
 abbrev pub sum-core : Core SumRule
 sum-core = record {
   grounds = sum-grounds;
@@ -109,9 +115,11 @@ sum-core = record {
 abbrev pub read-term : List ℕ → ℕ → Term
 read-term bs i = record { setting = getD bs i 0; coefficient = toZ w8 (getD bs (i + 1) 0) }
 
+-- term i from the values of the fields
 abbrev term-from : List ℤ → ℕ → Term
 term-from zs i = record { setting = natAbs (getD zs (2 * i) (pos 0)); coefficient = getD zs (2 * i + 1) (pos 0) }
 
+-- the frame: 03, three times setting and coefficient, t
 abbrev pub sum-codec : Codec SumRule
 sum-codec = record {
   code = 3;

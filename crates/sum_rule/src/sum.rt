@@ -9,6 +9,7 @@ ghost use Rattle.interface.specs.Points.{values-of};
 ghost use Rattle.rule_base.specs.Bounds.{low-in, high-in};
 ghost use Rattle.rule_base.specs.Guards.{guarded};
 ghost use Rattle.sum_rule.specs.Sums.{sum-core, sum-meets, sum-none, sum-all, times, is-empty, clash, wrong-number, term-at, least-of, greatest-of, three, left-for, term-cut, sum-cut};
+pub use super::frame::SumFrame;
 use interface::cut::Cut;
 use interface::fault::RecordFault;
 use interface::point::Point;
