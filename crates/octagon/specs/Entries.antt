@@ -39,7 +39,8 @@ top h p = cond (eqb (p % 2) 0) (high-of h (p / 2)) (wrapped w32 (negℤ (low-of 
 abbrev pub home-limit : Home → ℕ → ℕ → ℤ
 home-limit h p q = cond (leb (2 * h .n) p || (leb (2 * h .n) q || eqb q (opp p))) (pos 0) (plus (top h p) (top h q))
 
--- A cut to c between the opposites of a and b. The matrix is symmetric, so its rows serve as its columns.
+-- A cut to c between the opposites of a and b follows. The matrix is symmetric, so its rows serve as its columns.
+
 -- the shorter way from i over the cut that ends at b: by a, or by b and once more over the cut
 abbrev pub way : List ℤ → ℕ → ℕ → ℤ → ℕ → ℤ
 way l a b c i = minZ (plus (at l a i) c) (plus (plus (at l b i) c) (plus (at l a a) c))

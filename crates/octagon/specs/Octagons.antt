@@ -27,7 +27,7 @@ started h = record { n = h .n; void = false; limits = tabled (home-limit h) }
 abbrev pub limit-at : Octagon → ℕ → ℕ → ℤ
 limit-at s p q = cond (ltb p 16 && ltb q 16) (at (s .limits) p q) (pos 0)
 
--- void: every limit is 0
+-- no point is left: every limit is 0
 abbrev pub voided : Octagon → Octagon
 voided s = record { n = s .n; void = true; limits = replicate 256 (pos 0) }
 
@@ -43,16 +43,19 @@ unmet s p q c = ltZ (plus c (limit-at s (opp p) (opp q))) (pos 0)
 abbrev pub taken : Octagon → ℕ → ℕ → ℤ → Octagon
 taken s p q c = record { n = s .n; void = s .void; limits = lowered (s .n) (s .limits) (opp p) (opp q) c }
 
+-- the octagon after the cut (p, q, c)
 abbrev pub cutting : Octagon → ℕ → ℕ → ℤ → Octagon
 cutting s p q c = cond (idle s p q c) s (cond (unmet s p q c) (voided s) (taken s p q c))
 
+-- the same, shut: who cites it need not look into it
 unfoldable pub cut-to : Octagon → ℕ → ℕ → ℤ → Octagon
 cut-to = cutting
 
--- v(p) + v(q) is at most the entry, for all nodes below w
+-- row p: v(p) + v(q) is at most the entry, for every node q below w
 abbrev pub row-under : List ℤ → List ℤ → ℕ → ℕ → Bool
 row-under l x w p = every (λ q. leZ (value x p +ℤ value x q) (at l p q)) w
 
+-- the same for all rows
 unfoldable pub all-under : List ℤ → List ℤ → ℕ → Bool
 all-under l x w = every (row-under l x w) w
 
@@ -73,6 +76,7 @@ least-from L x (suc m) = narrow (next-value L x) ∷ least-from L (x ++ (narrow 
 abbrev pub offered : List ℤ → ℕ → List ℤ
 offered l m = least-from (at l) [] m ++ replicate (8 - m) (pos 0)
 
+-- a void octagon offers none
 abbrev pub offer-of : Octagon → Option Point
 offer-of s = cond (s .void) None (Some (record { n = s .n; values = offered (s .limits) (min 8 (s .n)) }))
 

@@ -27,13 +27,15 @@ widths L = map (width-at L) (counting 0 8)
 abbrev pub extent-by : Bool → (ℕ → ℕ → ℤ) → Extent
 extent-by v L = cond v Void (cond (all-single (widths L)) Lone Open)
 
+-- what is open can be split
 abbrev pub is-open : Bool → (ℕ → ℕ → ℤ) → Bool
 is-open v L = not v && not (all-single (widths L))
 
--- the widest range, the first among equals, and its middle, rounded down
+-- the widest range, the first among equals
 abbrev pub widest-at : (ℕ → ℕ → ℤ) → ℕ
 widest-at L = widest-of (widths L)
 
+-- the middle of a range, rounded down
 abbrev pub middle-at : (ℕ → ℕ → ℤ) → ℕ → ℤ
 middle-at L k = half (low-at L k +ℤ high-at L k)
 

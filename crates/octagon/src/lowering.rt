@@ -1,4 +1,5 @@
-// What one cut makes of the limits: the shortest of five ways, then rounded halves, all in two passes over the rows.
+// What one cut makes of the limits: the shortest of five ways, then joined halves. Rows are contiguous and the inner loop
+// has no branch, so that a compiler can take several entries at once.
 ghost use mathlib.Core.Path.{_≡_};
 ghost use Prim.Native.Nat.{_+_, _*_, _<_, _≤_, min};
 ghost use lib.IntN.{pos};
@@ -61,6 +62,7 @@ pub(crate) fn nodes(n: u8) -> usize
     if n < 8 { 2 * n as usize } else { 16 }
 }
 
+// The entries of row p, which is overwritten later.
 fn row(limits: &[i32; 256], p: usize) -> [i32; 16]
     requires { ⌜ p < 16 ⌝ }
     ensures { λ r. ⌜ r ≡ listed (at (now (limits .entry)) p) 16 ⌝ }
@@ -72,6 +74,7 @@ fn row(limits: &[i32; 256], p: usize) -> [i32; 16]
     entries
 }
 
+// The shorter way from i over the cut that ends at b.
 fn way_at(limits: &[i32; 256], a: usize, b: usize, c: i32, i: usize) -> i32
     requires { ⌜ a < 16 ⌝ ∗ ⌜ b < 16 ⌝ ∗ ⌜ i < 16 ⌝ }
     ensures { λ r. ⌜ r ≡ way (now (limits .entry)) a b c i ⌝ }
@@ -106,7 +109,7 @@ fn halved_at(limits: &[i32; 256], a: usize, b: usize, i: usize, x: i32, y: i32) 
     ))
 }
 
-// Half of each entry of the diagonal after the cut, which is twice a half or once over the cut.
+// Half of each entry of the diagonal after the cut, rounded down.
 fn halves(
     limits: &[i32; 256],
     a: usize,
