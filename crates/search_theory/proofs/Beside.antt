@@ -1,5 +1,5 @@
 -- The same run with another out slice, one that has room: it ends alike, and what it hands out stands after what stood there. Assumes nothing.
-use Prim.Native.Nat.{ℕ, zero, suc, _+_, _-_, _<_, _≤_}
+use Prim.Native.Nat.{ℕ, zero, suc, _+_, _<_, _≤_}
 use native.Mathlib.Omega.{arith}
 use mathlib.Core.Bool.{Bool, true, false, cond}
 use mathlib.Core.List.{List, [], _∷_, _++_, reverse}
@@ -7,8 +7,6 @@ use mathlib.Core.Logic.{_≢_}
 use mathlib.Core.Path.{_≡_, refl, ap, sym, subst, _∙_}
 use lib.Dec.{ltb, eqb}
 use lib.ListN.{length, take, set}
-use Rattle.std.specs.declared.option.Option.{Option}
-use Rattle.std.specs.declared.option.Option.the-variants.{Some}
 use Rattle.std.specs.declared.result.Result.{Result}
 use Rattle.std.specs.declared.result.Result.the-variants.{Ok, Err}
 use Rattle.std.proofs.shelf.Lists.{append-assoc, length-set, take-more-set}
@@ -23,7 +21,7 @@ use Rattle.search_theory.specs.declared.region.Region.{Region}
 use Rattle.search_theory.specs.Promise.{Front}
 use Rattle.search_theory.specs.Regions.{refine, classify}
 use Rattle.search_theory.specs.Runs.{Work, Ended, ended, go-on, dropped, handed-out, split-in, turn, take-up, step, run-from}
-use Rattle.search_theory.specs.Walks.{Held, held, placed}
+use Rattle.search_theory.specs.Walks.{Held, held}
 use Rattle.search_theory.proofs.Fronts.{reverse-cons, front-last}
 use Rattle.search_theory.proofs.Portions.{count-grows}
 use Rattle.search_theory.proofs.Running.{Tied, After-step, after-turn}

@@ -1,5 +1,4 @@
 -- Enums taken apart: each case with its equation. Assumes nothing.
-use mathlib.Core.Bool.{Bool, true, false}
 use mathlib.Core.Logic.{_⊎_, inl, inr, _≢_}
 use mathlib.Core.Path.{_≡_, refl, sym, subst}
 use Rattle.std.specs.declared.option.Option.{Option}

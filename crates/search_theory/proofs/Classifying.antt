@@ -1,9 +1,8 @@
 -- Classifying tells the truth: the verdicts of all rules together, and a lone region is never split. Assumes nothing.
-use Prim.Native.Nat.{ℕ}
-use mathlib.Core.Bool.{Bool, true, false, cond}
+use mathlib.Core.Bool.{cond}
 use mathlib.Core.List.{List, [], _∷_}
 use mathlib.Core.Logic.{_≢_, _⊎_, inl, inr, ⊎-elim}
-use mathlib.Core.Path.{_≡_, refl, ap, sym, subst, _∙_}
+use mathlib.Core.Path.{_≡_, refl, ap, sym, subst}
 use lib.IntN.{ℤ}
 use Rattle.std.specs.Options.{isSome}
 use Rattle.std.specs.declared.option.Option.{Option}
@@ -22,7 +21,7 @@ use Rattle.search_theory.specs.declared.fate.Fate.the-variants.{Dropped}
 use Rattle.search_theory.specs.RegionLaws.{True-fate, Classified}
 use Rattle.search_theory.specs.Regions.{read, is-void, both, fate-by, judged, classify}
 use Rattle.search_theory.specs.Standing.{Meets-rules}
-use Rattle.search_theory.proofs.Cases.{all≢nothing, all≢unknown, nothing≢all, nothing≢unknown, unknown≢all, unknown≢nothing}
+use Rattle.search_theory.proofs.Cases.{all≢nothing, all≢unknown, nothing≢all, nothing≢unknown, unknown≢all}
 use Rattle.search_theory.proofs.Readings.{read-n, held-within, lone-sums}
 
 both-nothing : (v w : Verdict) → both v w ≡ Nothing → (v ≡ Nothing) ⊎ (w ≡ Nothing)

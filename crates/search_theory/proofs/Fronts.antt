@@ -1,12 +1,12 @@
 -- The first places of a slice: written and taken back at their end, and seen in a longer slice. Assumes nothing.
-use Prim.Native.Nat.{ℕ, suc, _+_, _-_, _<_, _≤_}
+use Prim.Native.Nat.{ℕ, _+_, _-_, _<_, _≤_}
 use native.Mathlib.Omega.{arith}
 use mathlib.Core.List.{List, [], _∷_, _++_, reverse}
 use mathlib.Core.Path.{_≡_, refl, ap, sym, subst, _∙_}
 use lib.ListN.{length, take, getD, set}
 use Rattle.std.specs.Finite.{nth}
 use Rattle.std.specs.declared.option.Option.the-variants.{Some}
-use Rattle.std.proofs.shelf.Lists.{length-take, length-take-le, reverse-reverse, length-push, length-reverse, reverse-append, take-at, take-take, take-append-le, take-more-set, getD-take, getD-push}
+use Rattle.std.proofs.shelf.Lists.{length-take, length-take-le, reverse-reverse, length-push, reverse-append, take-at, take-take, take-append-le, take-more-set, getD-take, getD-push}
 use Rattle.std.proofs.shelf.Maps.{nth-getD}
 use Rattle.search_theory.specs.Promise.{Front}
 

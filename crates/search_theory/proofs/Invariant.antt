@@ -1,15 +1,12 @@
 -- What holds of ledger and world along every history, and that each accepted call but a run keeps it. Assumes nothing.
 use Prim.Native.Nat.{ℕ, _+_, _-_, _<_, _≤_}
 use native.Mathlib.Omega.{arith}
-use mathlib.Core.Bool.{Bool, true, false}
+use mathlib.Core.Bool.{false}
 use mathlib.Core.List.{List, [], _∷_, _++_, map, reverse}
 use mathlib.Core.Logic.{_≢_}
 use mathlib.Core.Path.{_≡_, refl, ap, sym, subst, _∙_}
-use lib.IntN.{ℤ}
 use lib.ListN.{length, take, set}
 use Rattle.std.specs.Finite.{nth}
-use Rattle.std.specs.Orderings.{Decides}
-use Rattle.std.specs.declared.option.Option.the-variants.{Some}
 use Rattle.std.proofs.shelf.Lists.{append-assoc, append-nil, take-take, take-at, length-append}
 use Rattle.std.proofs.shelf.Tests.{false≢true}
 use Rattle.interface.specs.declared.home.Home.{Home}
@@ -27,10 +24,9 @@ use Rattle.search_theory.specs.Regions.{cut-if-any}
 use Rattle.search_theory.specs.Requests.{World, whole}
 use Rattle.search_theory.specs.RunLaws.{Room}
 use Rattle.search_theory.specs.Solving.{Solving, opened}
-use Rattle.search_theory.specs.Standing.{shape-of, how-many}
-use Rattle.search_theory.specs.Walks.{Held, held}
+use Rattle.search_theory.specs.Standing.{shape-of}
 use Rattle.search_theory.proofs.Cases.{stating≢searching}
-use Rattle.search_theory.proofs.Fronts.{reverse-cons, front-fits, front-whole, front-lent, front-push, front-pop, front-last}
+use Rattle.search_theory.proofs.Fronts.{reverse-cons, front-whole, front-lent, front-push, front-pop, front-last}
 use Rattle.search_theory.proofs.Standing.{shape-of-push, shape-made, shape-n, shape-inside}
 use Rattle.search_theory.proofs.Walking.{Good}
 

@@ -1,20 +1,16 @@
 -- A run that is taken up again goes on as if it had not stopped, and the same run with another out slice does the same. Assumes nothing.
-use Prim.Native.Nat.{ℕ, zero, suc, _+_, _-_, _<_, _≤_}
+use Prim.Native.Nat.{ℕ, zero, suc, _+_, _≤_}
 use native.Mathlib.Omega.{arith}
 use mathlib.Core.Bool.{Bool, true, false, cond}
-use mathlib.Core.List.{List, [], _∷_, _++_, reverse}
+use mathlib.Core.List.{List, [], _∷_}
 use mathlib.Core.Logic.{_≢_}
 use mathlib.Core.Path.{_≡_, refl, ap, sym, subst, _∙_}
-use lib.Dec.{ltb, eqb}
-use lib.ListN.{length, take, set}
-use Rattle.std.specs.Finite.{nth}
-use Rattle.std.specs.declared.option.Option.{Option}
-use Rattle.std.specs.declared.option.Option.the-variants.{Some, None}
+use lib.Dec.{eqb}
+use lib.ListN.{length, take}
 use Rattle.std.specs.declared.result.Result.{Result}
 use Rattle.std.specs.declared.result.Result.the-variants.{Ok, Err}
-use Rattle.std.proofs.shelf.Lists.{append-assoc, append-nil, length-set, length-append, length-push, length-take-le, take-more-set}
-use Rattle.std.proofs.shelf.Tests.{cond-true, ltb-true, ltb-false, eqb-true, eqb-false, eq-eqb}
-use Rattle.interface.specs.declared.point.Point.{Point}
+use Rattle.std.proofs.shelf.Lists.{length-append, length-push, length-take-le}
+use Rattle.std.proofs.shelf.Tests.{cond-true, eqb-false}
 use Rattle.interface.specs.Rules.{RuleModel}
 use Rattle.interface.specs.Shapes.{ShapeModel}
 use Rattle.search_theory.specs.declared.fate.Fate.{Fate}
@@ -22,12 +18,10 @@ use Rattle.search_theory.specs.declared.fate.Fate.the-variants.{Dropped, Hande
 use Rattle.search_theory.specs.declared.outcome.Outcome.{Outcome}
 use Rattle.search_theory.specs.declared.outcome.Outcome.the-variants.{Done, Spent, ListFull, StackFull}
 use Rattle.search_theory.specs.declared.region.Region.{Region}
-use Rattle.search_theory.specs.Promise.{Front}
 use Rattle.search_theory.specs.Regions.{refine, classify}
-use Rattle.search_theory.specs.Runs.{Work, Ended, ended, go-on, dropped, handed-out, split-in, turn, take-up, step, run-from}
+use Rattle.search_theory.specs.Runs.{Work, Ended, ended, go-on, step, run-from}
 use Rattle.search_theory.specs.Walks.{Held, held, placed, walk-one, walk}
-use Rattle.search_theory.proofs.Fronts.{reverse-cons, front-last}
-use Rattle.search_theory.proofs.Running.{Tied, Stopped, After-step, after-turn, after-step, Run-as, run-as}
+use Rattle.search_theory.proofs.Running.{Tied, Stopped, After-step, after-step, run-as}
 
 -- steps only add to what was handed out
 module _ {S R : Type 0} (M : ShapeModel S) (K : RuleModel R) (rs : List R) where

@@ -1,15 +1,13 @@
 -- The promise: what holds along histories gives each statement; what a run or a limit answers is read off its call. Assumes nothing.
-use Prim.Native.Nat.{ℕ, _+_, _*_, _<_, _≤_}
+use Prim.Native.Nat.{ℕ, _≤_}
 use native.Mathlib.Omega.{arith}
-use mathlib.Core.Bool.{Bool, true, false, _&&_}
-use mathlib.Core.List.{List, [], _∷_, _++_, reverse}
+use mathlib.Core.Bool.{true, false}
+use mathlib.Core.List.{List, [], _++_, reverse}
 use mathlib.Core.Logic.{_≢_, _↔_}
 use mathlib.Core.Path.{_≡_, refl, ap, sym, subst, _∙_}
-use lib.Dec.{leb, ltb}
-use lib.IntN.{ℤ, _+ℤ_}
+use lib.Dec.{ltb}
+use lib.IntN.{ℤ}
 use lib.ListN.{length, take}
-use lib.Signed.{_≤ℤ_}
-use Rattle.std.specs.shelf.Lists.{All}
 use Rattle.std.specs.declared.result.Result.{Result}
 use Rattle.std.specs.declared.result.Result.the-variants.{Ok, Err}
 use Rattle.std.proofs.shelf.Elements.{all-weaker}
@@ -17,9 +15,8 @@ use Rattle.std.proofs.shelf.Lists.{reverse-reverse, length-reverse, nil-from-le
 use Rattle.std.proofs.shelf.Tests.{and-parts, leb-true, or-parts, ltb-false}
 use Rattle.interface.specs.declared.fault.SolverFault.{SolverFault}
 use Rattle.interface.specs.Grounds.{first-fault}
-use Rattle.interface.specs.Homes.{In-home}
 use Rattle.interface.specs.Rules.{RuleModel, RuleLaws}
-use Rattle.interface.specs.Shapes.{ShapeModel, ShapeLaws, Made, one-if}
+use Rattle.interface.specs.Shapes.{ShapeModel, ShapeLaws}
 use Rattle.search_theory.specs.declared.checkpoint.Checkpoint.{Checkpoint}
 use Rattle.search_theory.specs.declared.outcome.Outcome.the-variants.{Done, StackFull}
 use Rattle.search_theory.specs.declared.phase.Phase.the-variants.{Searching}
@@ -30,12 +27,12 @@ use Rattle.search_theory.specs.declared.report.Report.{Report}
 use Rattle.search_theory.specs.declared.request.Request.{Request}
 use Rattle.search_theory.specs.declared.request.Request.the-variants.{Run}
 use Rattle.search_theory.specs.Calls.{run-call, run-grounds, at-hand, after-run}
-use Rattle.search_theory.specs.Ledgers.{Ledger, History, noted}
+use Rattle.search_theory.specs.Ledgers.{Ledger, noted}
 use Rattle.search_theory.specs.Promise.{Front, Fits, Called, called, Kept, Run-with, Promise}
 use Rattle.search_theory.specs.Requests.{World, whole, replied, answered}
 use Rattle.search_theory.specs.RunLaws.{All-made, Room}
 use Rattle.search_theory.specs.Runs.{Ended, run-from, report-of}
-use Rattle.search_theory.specs.Solving.{Solving, refused, decided}
+use Rattle.search_theory.specs.Solving.{refused, decided}
 use Rattle.search_theory.specs.Standing.{shape-of}
 use Rattle.search_theory.proofs.Cases.{err≢ok}
 use Rattle.search_theory.proofs.Counting.{all-reverse}

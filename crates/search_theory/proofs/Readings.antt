@@ -1,9 +1,9 @@
 -- A made shape has at most eight settings, each point that it holds gives each a value, and its reading tells of them. Assumes nothing.
-use Prim.Native.Nat.{ℕ, _+_, _*_, _/_, _%_, _<_, _≤_}
+use Prim.Native.Nat.{ℕ, _+_, _*_, _/_, _%_, _<_}
 use mathlib.Core.Bool.{Bool, true, false, _&&_, not, cond}
 use mathlib.Core.List.{List, map}
-use mathlib.Core.Logic.{_≢_, ⊎-elim}
-use mathlib.Core.Path.{_≡_, refl, ap, sym, subst, _∙_}
+use mathlib.Core.Logic.{⊎-elim}
+use mathlib.Core.Path.{_≡_, refl, sym, subst, _∙_}
 use lib.Dec.{ltb}
 use lib.IntN.{ℤ, pos, _+ℤ_}
 use lib.ListN.{length, getD}
@@ -14,16 +14,14 @@ use Rattle.std.specs.declared.result.Result.{Result}
 use Rattle.std.specs.declared.result.Result.the-variants.{Ok, Err}
 use Rattle.std.proofs.shelf.Counted.{getD-map-counting}
 use Rattle.std.proofs.shelf.Tests.{and-parts, ltb-true, lt-ltb, and-from, cond-true}
-use Rattle.interface.specs.declared.extent.Extent.the-variants.{Lone, Open}
+use Rattle.interface.specs.declared.extent.Extent.the-variants.{Lone}
 use Rattle.interface.specs.declared.fault.RecordFault.{RecordFault}
-use Rattle.interface.specs.declared.fault.RecordFault.the-variants.{Settings}
 use Rattle.interface.specs.declared.home.Home.{Home}
-use Rattle.interface.specs.declared.reading.Reading.{Reading}
 use Rattle.interface.specs.Grounds.{next}
-use Rattle.interface.specs.Homes.{Passes, In-home}
+use Rattle.interface.specs.Homes.{Passes}
 use Rattle.interface.specs.Nodes.{value}
 use Rattle.interface.specs.Readings.{limit-at, Within, Sums-of}
-use Rattle.interface.specs.Shapes.{ShapeModel, ShapeLaws, Made, one-if, reading-of, by-start, by-cut, by-lower, by-upper}
+use Rattle.interface.specs.Shapes.{ShapeModel, ShapeLaws, Made, one-if, by-start, by-cut, by-lower, by-upper}
 use Rattle.search_theory.specs.Regions.{read}
 use Rattle.search_theory.proofs.Cases.{err≢ok, cases-open}
 

@@ -1,16 +1,14 @@
 -- Refining narrows: each cut does, and narrowing composes along cuts, rules and rounds. Assumes nothing.
-use Prim.Native.Nat.{ℕ, zero, suc, _≤_}
+use Prim.Native.Nat.{ℕ, zero, suc}
 use native.Mathlib.Nat.{le-refl, le-trans}
 use mathlib.Core.Bool.{Bool, true, false, cond}
 use mathlib.Core.List.{List, [], _∷_}
-use mathlib.Core.Logic.{_≢_}
-use mathlib.Core.Path.{_≡_, refl, ap, sym, subst, _∙_}
+use mathlib.Core.Path.{_≡_, refl, sym, subst, _∙_}
 use lib.IntN.{ℤ}
 use Rattle.std.specs.Iters.{counting}
 use Rattle.std.specs.declared.option.Option.{Option}
 use Rattle.std.specs.declared.option.Option.the-variants.{Some, None}
 use Rattle.interface.specs.declared.cut.Cut.{Cut}
-use Rattle.interface.specs.declared.extent.Extent.the-variants.{Open}
 use Rattle.interface.specs.Cuts.{Meets}
 use Rattle.interface.specs.Rules.{RuleModel, RuleLaws}
 use Rattle.interface.specs.Shapes.{ShapeModel, ShapeLaws, Made, by-cut}

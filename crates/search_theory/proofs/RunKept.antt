@@ -1,33 +1,31 @@
 -- A run keeps what holds along histories, and what it answers is true of the ledger. Assumes nothing.
-use Prim.Native.Nat.{ℕ, _+_, _-_, _<_, _≤_}
+use Prim.Native.Nat.{ℕ, _+_, _≤_}
 use native.Mathlib.Omega.{arith}
 use mathlib.Core.Bool.{Bool, true, false}
-use mathlib.Core.List.{List, [], _∷_, _++_, map, reverse}
+use mathlib.Core.List.{List, [], _∷_, _++_, reverse}
 use mathlib.Core.Logic.{_≢_, _⊎_, inl, inr, ⊎-elim, _↔_}
 use mathlib.Core.Path.{_≡_, refl, ap, sym, subst, _∙_}
 use lib.IntN.{ℤ}
 use lib.ListN.{length, take}
 use Rattle.std.specs.Orderings.{Decides}
 use Rattle.std.specs.shelf.Lists.{All}
-use Rattle.std.proofs.shelf.Lists.{append-nil, length-reverse, nil-from-length}
 use Rattle.std.proofs.shelf.Tests.{both-ways}
 use Rattle.interface.specs.Rules.{RuleModel, RuleLaws}
 use Rattle.interface.specs.Shapes.{ShapeModel, ShapeLaws, one-if}
 use Rattle.interface.specs.Homes.{In-home}
 use Rattle.interface.specs.Points.{values-of}
 use Rattle.search_theory.specs.declared.checkpoint.Checkpoint.{Checkpoint}
-use Rattle.search_theory.specs.declared.outcome.Outcome.the-variants.{Done}
 use Rattle.search_theory.specs.declared.phase.Phase.the-variants.{Searching}
 use Rattle.search_theory.specs.declared.region.Region.{Region}
 use Rattle.search_theory.specs.declared.reply.Reply.the-variants.{Ran}
 use Rattle.search_theory.specs.declared.request.Request.the-variants.{Run}
 use Rattle.search_theory.specs.Calls.{at-hand, after-run}
 use Rattle.search_theory.specs.Ledgers.{Ledger, heard}
-use Rattle.search_theory.specs.Promise.{Front, Fits, Sound}
+use Rattle.search_theory.specs.Promise.{Fits, Sound}
 use Rattle.search_theory.specs.Requests.{World, whole}
 use Rattle.search_theory.specs.Runs.{Ended, run-from, report-of}
 use Rattle.search_theory.specs.Standing.{shape-of, how-many, shapes-of}
-use Rattle.search_theory.specs.Walks.{Held, walk}
+use Rattle.search_theory.specs.Walks.{walk}
 use Rattle.search_theory.proofs.Fronts.{front-whole, front-lent}
 use Rattle.search_theory.proofs.Invariant.{Inv, world}
 use Rattle.search_theory.proofs.Running.{Tied, tied-start, Run-as, run-as}

@@ -1,13 +1,12 @@
 -- The laws of a run: why it ended decides its outcome, and what steps on lists keep, the run keeps. Assumes nothing.
-use Prim.Native.Nat.{ℕ, zero, suc, _+_, _-_, _<_, _≤_}
+use Prim.Native.Nat.{ℕ, _+_, _<_, _≤_}
 use native.Mathlib.Omega.{arith}
-use mathlib.Core.Bool.{Bool, true, false}
-use mathlib.Core.List.{List, [], _∷_, _++_, reverse}
-use mathlib.Core.Logic.{_≢_, _⊎_, inl, inr, ⊎-elim, _↔_}
+use mathlib.Core.Bool.{true}
+use mathlib.Core.List.{List, [], _∷_, reverse}
+use mathlib.Core.Logic.{_≢_, _↔_}
 use mathlib.Core.Path.{_≡_, refl, ap, sym, subst, _∙_}
-use lib.Dec.{ltb}
 use lib.IntN.{ℤ}
-use lib.ListN.{length, take, drop}
+use lib.ListN.{length, take}
 use Rattle.std.specs.shelf.Lists.{All}
 use Rattle.std.specs.declared.result.Result.{Result}
 use Rattle.std.specs.declared.result.Result.the-variants.{Ok, Err}
@@ -25,12 +24,11 @@ use Rattle.search_theory.specs.declared.fate.Fate.the-variants.{Dropped, Hande
 use Rattle.search_theory.specs.declared.outcome.Outcome.{Outcome}
 use Rattle.search_theory.specs.declared.outcome.Outcome.the-variants.{Done, Spent, ListFull, StackFull}
 use Rattle.search_theory.specs.declared.region.Region.{Region}
-use Rattle.search_theory.specs.declared.report.Report.{Report}
 use Rattle.search_theory.specs.Calls.{run-call, run-grounds, at-hand, after-run}
 use Rattle.search_theory.specs.Promise.{Front}
 use Rattle.search_theory.specs.Regions.{refine, classify}
 use Rattle.search_theory.specs.RunLaws.{All-made, Only-fitting, Room, Runs, given, Next-is, Outcomes, Moves, Keeps, run-seen, Run-laws}
-use Rattle.search_theory.specs.Runs.{Work, Ended, run-from, report-of}
+use Rattle.search_theory.specs.Runs.{Ended, run-from, report-of}
 use Rattle.search_theory.specs.Solving.{Solving, refused, decided}
 use Rattle.search_theory.specs.Standing.{Meets-rules, how-many, shapes-of}
 use Rattle.search_theory.specs.Walks.{Held, held, walk}

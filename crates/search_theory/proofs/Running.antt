@@ -1,18 +1,15 @@
 -- A run on the slices is a walk of as many steps on lists: slices and lists stay tied from step to step. Assumes nothing.
 use Prim.Native.Nat.{ℕ, zero, suc, _+_, _-_, _<_, _≤_}
 use native.Mathlib.Omega.{arith}
-use mathlib.Core.Bool.{Bool, true, false, cond}
+use mathlib.Core.Bool.{Bool, true}
 use mathlib.Core.List.{List, [], _∷_, _++_, reverse}
 use mathlib.Core.Logic.{_≢_, _⊎_, inl, inr, ⊎-elim, _↔_}
 use mathlib.Core.Path.{_≡_, refl, ap, sym, subst, _∙_}
 use lib.Dec.{ltb, eqb}
 use lib.ListN.{length, take, drop, set}
-use Rattle.std.specs.Finite.{nth}
-use Rattle.std.specs.declared.option.Option.{Option}
-use Rattle.std.specs.declared.option.Option.the-variants.{Some, None}
 use Rattle.std.specs.declared.result.Result.{Result}
 use Rattle.std.specs.declared.result.Result.the-variants.{Ok, Err}
-use Rattle.std.proofs.shelf.Lists.{append-assoc, append-nil, length-set, length-push, length-reverse, take-more-set, drop-set-lt, drop-drop}
+use Rattle.std.proofs.shelf.Lists.{append-assoc, append-nil, length-set, length-push, take-more-set, drop-set-lt, drop-drop}
 use Rattle.std.proofs.shelf.Tests.{cond-both, ltb-true, ltb-false, eqb-true, eqb-false}
 use Rattle.interface.specs.declared.point.Point.{Point}
 use Rattle.interface.specs.Rules.{RuleModel}
@@ -29,7 +26,7 @@ use Rattle.search_theory.specs.RunLaws.{Next-is}
 use Rattle.search_theory.specs.Runs.{Work, Ended, ended, go-on, handed-out, split-in, turn, take-up, step, run-from}
 use Rattle.search_theory.specs.Solving.{Solving}
 use Rattle.search_theory.specs.Walks.{Held, held, placed, walk-one, walk}
-use Rattle.search_theory.proofs.Fronts.{reverse-cons, front-fits, front-push, front-pop, front-last}
+use Rattle.search_theory.proofs.Fronts.{reverse-cons, front-push, front-pop, front-last}
 
 -- the work is what the lists say; base was handed out before; the run started with found, out and so many stack places
 pub record Tied {S : Type 0} (found : Bool) (out : List (Region S)) (places : ℕ) (base : List (Region S)) (w : Work S) (h : Held S) : Type 0 where

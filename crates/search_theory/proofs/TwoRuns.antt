@@ -1,8 +1,7 @@
 -- Two runs do what one of both budgets does: the one run beside the first, taken up again beside the second. Assumes nothing.
 use Prim.Native.Nat.{ℕ, _+_, _≤_}
 use native.Mathlib.Omega.{arith}
-use mathlib.Core.Bool.{Bool}
-use mathlib.Core.List.{List, [], _∷_, _++_, reverse}
+use mathlib.Core.List.{List, [], reverse}
 use mathlib.Core.Logic.{_≢_}
 use mathlib.Core.Path.{_≡_, refl, ap, sym, subst, _∙_}
 use lib.ListN.{length, take}
@@ -22,12 +21,12 @@ use Rattle.search_theory.specs.Portions.{As-both, Portions}
 use Rattle.search_theory.specs.Runs.{Work, Ended, run-from, report-of}
 use Rattle.search_theory.specs.Solving.{Solving, refused, decided}
 use Rattle.search_theory.specs.Walks.{Held, held}
-use Rattle.search_theory.proofs.Beside.{After, Alike, beside}
+use Rattle.search_theory.proofs.Beside.{beside}
 use Rattle.search_theory.proofs.Cases.{err≢ok}
 use Rattle.search_theory.proofs.Fronts.{front-of, front-fits}
 use Rattle.search_theory.proofs.Grounds.{none-hold, ok-same}
 use Rattle.search_theory.proofs.Portions.{resumed}
-use Rattle.search_theory.proofs.Running.{Tied, tied-start, Run-as, run-as}
+use Rattle.search_theory.proofs.Running.{tied-start, run-as}
 
 module _ {S R : Type 0} (M : ShapeModel S) (K : RuleModel R) (s : Solving S) (rules : List R) (stack : List S) (a b : ℕ) (out out′ out″ : List (Region S)) where
   abbrev rs : List R

@@ -1,7 +1,5 @@
 -- Any of the eight calls, on all lent slices at once. Assumes nothing.
-use Prim.Native.Nat.{ℕ}
 use mathlib.Core.List.{List, _++_}
-use lib.IntN.{ℤ}
 use Rattle.std.specs.declared.result.Result.{Result}
 use Rattle.std.specs.declared.result.Result.the-variants.{Ok, Err}
 use Rattle.interface.specs.declared.fault.SolverFault.{SolverFault}
@@ -11,7 +9,6 @@ use Rattle.search_theory.specs.declared.checkpoint.Checkpoint.{Checkpoint}
 use Rattle.search_theory.specs.declared.region.Region.{Region}
 use Rattle.search_theory.specs.declared.reply.Reply.{Reply}
 use Rattle.search_theory.specs.declared.reply.Reply.the-variants.{Accepted, Ran, LimitIs}
-use Rattle.search_theory.specs.declared.report.Report.{Report}
 use Rattle.search_theory.specs.declared.request.Request.{Request}
 use Rattle.search_theory.specs.declared.request.Request.the-variants.{State, Mark, Back, Keep, Begin, Run, Leave, Limit}
 use Rattle.search_theory.specs.Calls.{state-call, mark-call, back-call, keep-call, begin-call, run-call, leave-call, limit-call}

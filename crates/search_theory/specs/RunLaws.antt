@@ -1,6 +1,6 @@
 -- What a run means, in terms of the regions that wait and those handed out, and of the points that they hold. Assumes nothing.
 use Prim.Native.Nat.{ℕ, _+_, _<_, _≤_}
-use mathlib.Core.Bool.{Bool, true, false}
+use mathlib.Core.Bool.{Bool, true}
 use mathlib.Core.List.{List, [], _∷_, _++_, reverse}
 use mathlib.Core.Logic.{_≢_, _⊎_, _↔_}
 use mathlib.Core.Path.{_≡_}
@@ -14,14 +14,13 @@ use Rattle.interface.specs.Rules.{RuleModel}
 use Rattle.interface.specs.Shapes.{ShapeModel, Made}
 use Rattle.search_theory.specs.declared.fate.Fate.{Fate}
 use Rattle.search_theory.specs.declared.fate.Fate.the-variants.{HandedOut, Split}
-use Rattle.search_theory.specs.declared.outcome.Outcome.{Outcome}
 use Rattle.search_theory.specs.declared.outcome.Outcome.the-variants.{Done, Spent, ListFull, StackFull}
 use Rattle.search_theory.specs.declared.region.Region.{Region}
 use Rattle.search_theory.specs.declared.report.Report.{Report}
 use Rattle.search_theory.specs.Regions.{refine, classify}
 use Rattle.search_theory.specs.Solving.{Solving, Left}
 use Rattle.search_theory.specs.Standing.{Meets-rules, how-many, shapes-of}
-use Rattle.search_theory.specs.Walks.{Held, held, walk}
+use Rattle.search_theory.specs.Walks.{held, walk}
 
 -- regions of n settings that making, cutting or splitting gave
 abbrev pub All-made : {S : Type 0} → ShapeModel S → ℕ → List S → Type 0
