@@ -12,17 +12,15 @@ use Rattle.interface.specs.declared.cut.Cut.{Cut}
 use Rattle.interface.specs.declared.fault.RecordFault.the-variants.{Number}
 use Rattle.interface.specs.declared.home.Home.{Home}
 use Rattle.interface.specs.declared.reading.Reading.{Reading}
-use Rattle.interface.specs.Cuts.{cut-of}
+use Rattle.interface.specs.CutBounds.{valid-cut}
 use Rattle.interface.specs.Nodes.{opp}
 use Rattle.interface.specs.Numbers.{half}
-use Rattle.interface.specs.Rules.{RuleModel}
 use Rattle.interface.specs.Shapes.{built, reading-of}
 use Rattle.halving.specs.Halvings.{halvings-of, width}
 use Rattle.intervals.specs.Model.{box-model}
 use Rattle.octagon_theory.specs.Limits.{Between, chain-sum, entry, void, limit}
 use Rattle.rule_base.specs.Guards.{guarded}
 use Rattle.sum_rule.specs.declared.sum.SumRule.{SumRule}
-use Rattle.sum_rule.specs.declared.sum.Term.{Term}
 use Rattle.sum_rule.specs.Sums.{sum-core}
 use Rattle.rules.specs.declared.apart.ApartRule.{ApartRule}
 use Rattle.rules.specs.declared.pair.PairRule.{PairRule}
@@ -42,17 +40,21 @@ two low high low′ high′ = record { n = 2; lows = low ∷ low′ ∷ replicat
 abbrev pub ten : Home
 ten = two (pos 0) (pos 10) (pos 0) (pos 10)
 
+-- the cut (p, q, c), which exists
+abbrev pub cut : (p q : ℕ) (c : ℤ) → valid-cut p q c ≡ true → Cut
+cut p q c e = record { p = p; q = q; c = c; ok = e }
+
 abbrev pub three-cuts : List Cut
-three-cuts = record { p = 0; q = 2; c = pos 7; ok = refl } ∷ record { p = 0; q = 3; c = pos 0; ok = refl } ∷ record { p = 1; q = 2; c = pos 0; ok = refl } ∷ []
+three-cuts = cut 0 2 (pos 7) refl ∷ cut 0 3 (pos 0) refl ∷ cut 1 2 (pos 0) refl ∷ []
 
 abbrev pub four-cuts : List Cut
-four-cuts = record { p = 1; q = 3; c = negℤ (pos 7); ok = refl } ∷ three-cuts
+four-cuts = cut 1 3 (negℤ (pos 7)) refl ∷ three-cuts
 
 abbrev pub less-by-three : List Cut
-less-by-three = record { p = 0; q = 3; c = negℤ (pos 3); ok = refl } ∷ []
+less-by-three = cut 0 3 (negℤ (pos 3)) refl ∷ []
 
 abbrev pub below-zero : List Cut
-below-zero = record { p = 0; q = 0; c = negℤ (pos 1); ok = refl } ∷ []
+below-zero = cut 0 0 (negℤ (pos 1)) refl ∷ []
 
 -- the limits of the interval box that holds the home
 abbrev pub box-reading : Home → Reading
@@ -81,11 +83,11 @@ pub record Figures : Type 0 where
   pub three-values : halvings-of (width (pos 0) (pos 2) ∷ []) ≡ 2
   pub widest-range : halvings-of (width (negℤ (pos 1000000)) (pos 1000000) ∷ []) ≡ 21
   -- bounds are divided downwards and proposed doubled
-  pub sum-cut-up : guarded sum-core .proposed two-terms (box-reading (two (pos 0) (pos 10) (pos 0) (pos 5))) 0 ≡ cut-of 0 0 (pos 8)
-  pub sum-cut-down : guarded sum-core .proposed one-term (box-reading ten) 0 ≡ cut-of 1 1 (negℤ (pos 4))
-  pub apart-cut : guarded apart-core .proposed five-apart (box-reading (two (pos 0) (pos 10) (pos 8) (pos 9))) 0 ≡ cut-of 0 3 (negℤ (pos 5))
-  pub step-cut-up : guarded step-core .proposed fourth-steps (box-reading (one (negℤ (pos 6)) (negℤ (pos 2)))) 0 ≡ cut-of 0 0 (negℤ (pos 10))
-  pub step-cut-down : guarded step-core .proposed fourth-steps (box-reading (one (negℤ (pos 6)) (negℤ (pos 2)))) 1 ≡ cut-of 1 1 (pos 10)
+  pub sum-cut-up : guarded sum-core .proposed two-terms (box-reading (two (pos 0) (pos 10) (pos 0) (pos 5))) 0 ≡ Some (cut 0 0 (pos 8) refl)
+  pub sum-cut-down : guarded sum-core .proposed one-term (box-reading ten) 0 ≡ Some (cut 1 1 (negℤ (pos 4)) refl)
+  pub apart-cut : guarded apart-core .proposed five-apart (box-reading (two (pos 0) (pos 10) (pos 8) (pos 9))) 0 ≡ Some (cut 0 3 (negℤ (pos 5)) refl)
+  pub step-cut-up : guarded step-core .proposed fourth-steps (box-reading (one (negℤ (pos 6)) (negℤ (pos 2)))) 0 ≡ Some (cut 0 0 (negℤ (pos 10)) refl)
+  pub step-cut-down : guarded step-core .proposed fourth-steps (box-reading (one (negℤ (pos 6)) (negℤ (pos 2)))) 1 ≡ Some (cut 1 1 (pos 10) refl)
   -- the box keeps less than the octagon, whose rounding lowers limits after the chains
   pub box-limit : box-model .limit (built box-model ten three-cuts) 0 2 ≡ pos 14
   pub rounded-diagonal : limit ten three-cuts 0 0 ≡ pos 6
