@@ -1,5 +1,5 @@
 // The session and the memory that it is lent with each call.
-use super::ledger::Ledger;
+use super::counts::Counts;
 use interface::fault::SolverFault;
 use interface::home::Home;
 use interface::point::Point;
@@ -27,7 +27,7 @@ use sum_rule::sum::SumIsRule;
 #[derive(Clone, Copy)]
 pub struct Desk {
     pub solver: Option<Solver<Octagon>>,
-    pub ledger: Ledger,
+    pub counts: Counts,
     pub rules: [AnyRule; 32],
     pub checkpoints: [Checkpoint<Octagon>; 4],
     pub stack: [Octagon; 169],
@@ -50,7 +50,7 @@ impl Desk {
         };
         Desk {
             solver: None,
-            ledger: Ledger { rules: 0, marks: 0 },
+            counts: Counts { rules: 0, marks: 0 },
             rules: [Joined::First(PairRule { p: 0, q: 0, c: 0 }); 32],
             checkpoints: [Checkpoint { shape, rules: 0 }; 4],
             stack: [shape; 169],
@@ -61,7 +61,7 @@ impl Desk {
     // Opens a session from a home; where that is refused, the earlier one goes on.
     pub fn open(&mut self, home: &Home) -> Result<(), SolverFault> {
         self.solver = Some(open(home)?);
-        self.ledger = Ledger { rules: 0, marks: 0 };
+        self.counts = Ledger { rules: 0, marks: 0 };
         Ok(())
     }
 
@@ -77,7 +77,7 @@ impl Desk {
             request,
         );
         if answer.is_ok() {
-            self.ledger = self.ledger.after(request, &self.checkpoints);
+            self.counts = self.counts.after(request, &self.checkpoints);
         }
         self.solver = Some(solver);
         Some(answer)

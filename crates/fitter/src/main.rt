@@ -1,8 +1,8 @@
 // A fitter's desk: takes plain commands from standard input, one a line, and says in plain words what each did.
 mod command;
+mod counts;
 mod desk;
 mod grounds;
-mod ledger;
 mod telling;
 mod words;
 

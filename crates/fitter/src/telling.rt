@@ -1,7 +1,9 @@
 // What was done, in plain words.
+ghost use mathlib.Core.Path.{_≡_};
+ghost use Rattle.fitter.specs.Desks.{none-exists};
+use super::counts::Counts;
 use super::desk::Desk;
 use super::grounds::ground;
-use super::ledger::Ledger;
 use interface::fault::SolverFault;
 use interface::shape::Shape;
 use octagon::matrix::Octagon;
@@ -14,6 +16,11 @@ use search_theory::report::Report;
 use search_theory::request::Request;
 use std::io;
 
+// What a word ends in after a count.
+fn plural(count: u32) -> &'static str {
+    if count == 1 { "" } else { "s" }
+}
+
 fn tell_refusal(rt: &LibcRuntime, fault: SolverFault) -> io::Result<()> {
     let words = ground(fault);
     let number = fault.code().number;
@@ -22,7 +29,10 @@ fn tell_refusal(rt: &LibcRuntime, fault: SolverFault) -> io::Result<()> {
 
 pub fn tell_home(rt: &LibcRuntime, n: u8, answer: Result<(), SolverFault>) -> io::Result<()> {
     match answer {
-        Ok(()) => println!(rt, "home: {n} settings"),
+        Ok(()) => {
+            let end = plural(n as u32);
+            println!(rt, "home: {n} setting{end}")
+        }
         Err(fault) => tell_refusal(rt, fault),
     }
 }
@@ -54,7 +64,9 @@ fn outcome_words(outcome: Outcome) -> &'static str {
 }
 
 // Whether the search is over and handed out nothing.
-fn no_setting(report: &Report) -> bool {
+fn no_setting(report: &Report) -> bool
+    ensures { λ r. ⌜ r ≡ none-exists (now (report .entry)) ⌝ }
+{
     match report.outcome {
         Outcome::Done => !report.found,
         _ => false,
@@ -67,16 +79,17 @@ fn tell_run(rt: &LibcRuntime, report: Report, regions: &[Region<Octagon>]) -> io
     }
     let words = outcome_words(report.outcome);
     let steps = report.steps;
-    println!(rt, "{words} after {steps} steps")?;
+    let end = plural(steps);
+    println!(rt, "{words} after {steps} step{end}")?;
     if no_setting(&report) {
         println!(rt, "no setting exists")?;
     }
     Ok(())
 }
 
-fn tell_accepted(rt: &LibcRuntime, ledger: Ledger, request: Request<AnyRule>) -> io::Result<()> {
-    let rules = ledger.rules;
-    let marks = ledger.marks;
+fn tell_accepted(rt: &LibcRuntime, counts: Counts, request: Request<AnyRule>) -> io::Result<()> {
+    let rules = counts.rules;
+    let marks = counts.marks;
     match request {
         Request::State(_) => println!(rt, "rule {rules} stands"),
         Request::Mark => println!(rt, "checkpoint {marks} set, rules standing: {rules}"),
@@ -101,6 +114,6 @@ pub fn tell_reply(
         Err(fault) => tell_refusal(rt, fault),
         Ok(Reply::LimitIs(limit)) => println!(rt, "limit: {limit}"),
         Ok(Reply::Ran(report)) => tell_run(rt, report, &desk.regions),
-        Ok(Reply::Accepted) => tell_accepted(rt, desk.ledger, request),
+        Ok(Reply::Accepted) => tell_accepted(rt, desk.counts, request),
     }
 }

@@ -1,4 +1,7 @@
 // Numbers, settings and nodes from words.
+ghost use mathlib.Core.Path.{_≡_};
+ghost use Prim.Native.Nat.{_+_, _*_, _<_};
+ghost use Rattle.std.specs.Options.{Cases};
 
 // A whole number.
 pub fn number(word: &str) -> Option<i32> {
@@ -7,7 +10,7 @@ pub fn number(word: &str) -> Option<i32> {
 
 // The number of a setting, from `s3`. All past 127 are read as 127: no line has them either, and each has its nodes.
 pub fn setting(word: &str) -> Option<u8>
-    ensures { λ r. ⌜ Cases r (Unit {0}) (λ k. k < 128) ⌝ }
+    ensures bound { λ r. ⌜ Cases r (Unit {0}) (λ k. k < 128) ⌝ }
 {
     Some(word.strip_prefix("s")?.parse::<u8>().ok()?.min(127))
 }

@@ -5,7 +5,7 @@ use search_theory::checkpoint::Checkpoint;
 use search_theory::request::Request;
 
 #[derive(Clone, Copy)]
-pub struct Ledger {
+pub struct Counts {
     pub rules: usize,
     pub marks: usize,
 }
@@ -19,23 +19,23 @@ fn noted(checkpoints: &[Checkpoint<Octagon>], marks: usize) -> usize {
     }
 }
 
-impl Ledger {
+impl Counts {
     // The counts after an accepted request.
-    pub fn after(&self, request: Request<AnyRule>, checkpoints: &[Checkpoint<Octagon>]) -> Ledger {
+    pub fn after(&self, request: Request<AnyRule>, checkpoints: &[Checkpoint<Octagon>]) -> Counts {
         match request {
-            Request::State(_) => Ledger {
+            Request::State(_) => Counts {
                 rules: self.rules.saturating_add(1),
                 marks: self.marks,
             },
-            Request::Mark => Ledger {
+            Request::Mark => Counts {
                 rules: self.rules,
                 marks: self.marks.saturating_add(1),
             },
-            Request::Back => Ledger {
+            Request::Back => Counts {
                 rules: noted(checkpoints, self.marks),
                 marks: self.marks.saturating_sub(1),
             },
-            Request::Keep => Ledger {
+            Request::Keep => Counts {
                 rules: self.rules,
                 marks: self.marks.saturating_sub(1),
             },
