@@ -1,85 +1,59 @@
-// The session and the memory that it is lent with each call.
+// The fitter's desk: the session that is open, if one is, and its memory.
+ghost use mathlib.Core.Path.{_≡_};
+ghost use Rattle.fitter.specs.Sessions.{Session, Opened, Asked};
 use super::counts::Counts;
+use super::store::Memory;
 use interface::fault::SolverFault;
 use interface::home::Home;
-use interface::point::Point;
-use interface::shape::Shape;
 use octagon::matrix::Octagon;
-use octagon::shape::OctagonShape;
 use rules::any::AnyRule;
-use rules::apart::ApartIsRule;
-use rules::joined::Joined;
-use rules::joined::JoinedIsRule;
-use rules::pair::PairIsRule;
-use rules::pair::PairRule;
-use rules::step::StepIsRule;
 use search::solver::Solver;
-use search_theory::checkpoint::Checkpoint;
-use search_theory::region::Region;
 use search_theory::reply::Reply;
 use search_theory::request::Request;
-use session::call::call;
-use session::call::open;
-use sum_rule::sum::SumIsRule;
 
-// No solver before a first home. Every session has the same memory: 32 rules, 4 checkpoints, 169 regions that wait,
-// and a list of 4 regions a run.
+// No solver before a first home; then always one that calls on this memory led to. Every session has the same memory.
 #[derive(Clone, Copy)]
 pub struct Desk {
     pub solver: Option<Solver<Octagon>>,
     pub counts: Counts,
-    pub rules: [AnyRule; 32],
-    pub checkpoints: [Checkpoint<Octagon>; 4],
-    pub stack: [Octagon; 169],
-    pub regions: [Region<Octagon>; 4],
+    pub memory: Memory,
+    ghost session: { Session solver memory },
 }
 
 impl Desk {
-    // No session yet; what fills the memory is never looked at.
     pub fn new() -> Desk {
-        let shape = Octagon::start(
-            &Home {
-                n: 1,
-                lows: [0; 8],
-                highs: [0; 8],
-            },
-        );
-        let point = Point {
-            n: 1,
-            values: [0; 8],
-        };
         Desk {
             solver: None,
             counts: Counts { rules: 0, marks: 0 },
-            rules: [Joined::First(PairRule { p: 0, q: 0, c: 0 }); 32],
-            checkpoints: [Checkpoint { shape, rules: 0 }; 4],
-            stack: [shape; 169],
-            regions: [Region { shape, point }; 4],
+            memory: Memory::new(),
         }
     }
 
     // Opens a session from a home; where that is refused, the earlier one goes on.
-    pub fn open(&mut self, home: &Home) -> Result<(), SolverFault> {
-        self.solver = Some(open(home)?);
-        self.counts = Ledger { rules: 0, marks: 0 };
+    pub fn open(&mut self, home: &Home) -> Result<(), SolverFault>
+        ensures cases { λ r. ⌜ Opened r (now (home .entry)) (now (self .entry) .solver) (now (self .exit) .solver) ⌝ }
+        ensures same { λ _. ⌜ now (self .exit) .memory ≡ now (self .entry) .memory ⌝ }
+    {
+        let solver = self.memory.open(home)?;
+        self.solver = Some(solver);
+        self.counts = Counts { rules: 0, marks: 0 };
         Ok(())
     }
 
     // The session's answer to a request, nothing where no session is open.
-    pub fn ask(&mut self, request: Request<AnyRule>) -> Option<Result<Reply, SolverFault>> {
-        let mut solver = self.solver?;
-        let answer = call(
-            &mut solver,
-            &mut self.rules,
-            &mut self.checkpoints,
-            &mut self.stack,
-            &mut self.regions,
-            request,
-        );
-        if answer.is_ok() {
-            self.counts = self.counts.after(request, &self.checkpoints);
-        }
+    pub fn ask(&mut self, request: Request<AnyRule>) -> Option<Result<Reply, SolverFault>>
+        ensures { λ r. ⌜ Asked (now (self .entry) .solver) (now (self .entry) .memory) request r (now (self .exit) .solver) (now (self .exit) .memory) ⌝ }
+    {
+        let Some(mut solver) = self.solver else {
+            return None;
+        };
+        // while its memory is lent, the session is not on the desk
+        self.solver = None;
+        let answer = self.memory.ask(&mut solver, request);
         self.solver = Some(solver);
+        if answer.is_ok() {
+            self.counts = self.counts.after(request, &self.memory.checkpoints);
+        }
         Some(answer)
     }
 }

@@ -3,6 +3,8 @@ mod command;
 mod counts;
 mod desk;
 mod grounds;
+mod memory;
+mod store;
 mod telling;
 mod words;
 

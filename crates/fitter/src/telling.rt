@@ -113,7 +113,7 @@ pub fn tell_reply(
     match answer {
         Err(fault) => tell_refusal(rt, fault),
         Ok(Reply::LimitIs(limit)) => println!(rt, "limit: {limit}"),
-        Ok(Reply::Ran(report)) => tell_run(rt, report, &desk.regions),
+        Ok(Reply::Ran(report)) => tell_run(rt, report, &desk.memory.regions),
         Ok(Reply::Accepted) => tell_accepted(rt, desk.counts, request),
     }
 }

@@ -1,0 +1,5 @@
+-- With no solver there is nothing to show.
+use Rattle.fitter.proofs.desk.Desk.new.Needs as need
+
+pub ghost-result : need.ghost-result
+ghost-result c = (∣ tt ∣₁, tt)
