@@ -193,8 +193,11 @@ def obey(session, line):
 
 def main():
     session = None
-    for line in sys.stdin:
-        session, said = obey(session, line.rstrip("\n"))
+    for line in sys.stdin.buffer:
+        try:
+            session, said = obey(session, line.decode().rstrip("\n"))
+        except UnicodeDecodeError:
+            said = ["cannot read, nothing done: the line is no text"]
         sys.stdout.write("".join(one + "\n" for one in said))
 
 

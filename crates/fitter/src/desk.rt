@@ -1,5 +1,6 @@
 // The fitter's desk: the session that is open, if one is, and its memory.
 ghost use mathlib.Core.Path.{_≡_};
+ghost use Rattle.fitter.specs.Counting.{rules-in, marks-in};
 ghost use Rattle.fitter.specs.Sessions.{Session, Opened, Asked};
 use super::counts::Counts;
 use super::store::Memory;
@@ -18,6 +19,8 @@ pub struct Desk {
     pub counts: Counts,
     pub memory: Memory,
     ghost session: { Session solver memory },
+    ghost standing: { rules-in solver (counts .rules) ≡ counts .rules },
+    ghost marked: { marks-in solver (counts .marks) ≡ counts .marks },
 }
 
 impl Desk {
@@ -50,10 +53,9 @@ impl Desk {
         // while its memory is lent, the session is not on the desk
         self.solver = None;
         let answer = self.memory.ask(&mut solver, request);
+        self.counts = self.counts
+            .after(request, &answer, &self.memory.checkpoints);
         self.solver = Some(solver);
-        if answer.is_ok() {
-            self.counts = self.counts.after(request, &self.memory.checkpoints);
-        }
         Some(answer)
     }
 }

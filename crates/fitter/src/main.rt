@@ -38,11 +38,24 @@ fn take_line(rt: &LibcRuntime, desk: &mut Desk, line: &str) -> io::Result<()> {
     }
 }
 
+// A line whose bytes are no text is passed over; any other error ends the program.
+fn pass_over(rt: &LibcRuntime, error: io::Error) -> io::Result<()> {
+    match error.kind() {
+        io::ErrorKind::InvalidData => println!(
+            rt,
+            "cannot read, nothing done: the line is no text"
+        ),
+        _ => Err(error),
+    }
+}
+
 fn main(rt: LibcRuntime) -> io::Result<()> {
     let mut desk = Desk::new();
     for line in rt.lines(rt.alloc()) {
-        let line = line?;
-        take_line(&rt, &mut desk, line.as_str())?;
+        match line {
+            Ok(line) => take_line(&rt, &mut desk, line.as_str())?,
+            Err(error) => pass_over(&rt, error)?,
+        }
     }
     Ok(())
 }

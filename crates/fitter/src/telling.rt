@@ -100,7 +100,9 @@ fn tell_accepted(rt: &LibcRuntime, counts: Counts, request: Request<AnyRule>) ->
         Request::Keep => println!(rt, "kept, rules standing: {rules}, checkpoints: {marks}"),
         Request::Begin => println!(rt, "search begun"),
         Request::Leave => println!(rt, "search left"),
-        _ => println!(rt, "done"),
+        // a run and a limit answer more than that
+        Request::Run(_) => Ok(()),
+        Request::Limit(_, _) => Ok(()),
     }
 }
 
