@@ -122,7 +122,7 @@ fn read_request(words: &[&str]) -> Option<Request<AnyRule>> {
 }
 
 // The command that the words of a line give, where they give one.
-pub fn read_command(words: &[&str]) -> Option<Command> {
+pub(crate) fn read_command(words: &[&str]) -> Option<Command> {
     match words {
         ["home", rest @ ..] => Some(Command::Home(read_home(rest)?)),
         _ => Some(Command::Call(read_request(words)?)),

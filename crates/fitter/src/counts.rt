@@ -74,7 +74,7 @@ impl Counts {
     }
 
     // After a request and its answer; what is refused counts for nothing.
-    pub fn after(
+    pub(crate) fn after(
         &self,
         request: Request<AnyRule>,
         answer: &Result<Reply, SolverFault>,

@@ -24,7 +24,7 @@ pub struct Desk {
 }
 
 impl Desk {
-    pub fn new() -> Desk {
+    pub(crate) fn new() -> Desk {
         Desk {
             solver: None,
             counts: Counts { rules: 0, marks: 0 },
@@ -33,7 +33,7 @@ impl Desk {
     }
 
     // Opens a session from a home; where that is refused, the earlier one goes on.
-    pub fn open(&mut self, home: &Home) -> Result<(), SolverFault>
+    pub(crate) fn open(&mut self, home: &Home) -> Result<(), SolverFault>
         ensures cases { λ r. ⌜ Opened r (now (home .entry)) (now (self .entry) .solver) (now (self .exit) .solver) ⌝ }
         ensures same { λ _. ⌜ now (self .exit) .memory ≡ now (self .entry) .memory ⌝ }
     {
@@ -44,7 +44,7 @@ impl Desk {
     }
 
     // The session's answer to a request, nothing where no session is open.
-    pub fn ask(&mut self, request: Request<AnyRule>) -> Option<Result<Reply, SolverFault>>
+    pub(crate) fn ask(&mut self, request: Request<AnyRule>) -> Option<Result<Reply, SolverFault>>
         ensures { λ r. ⌜ Asked (now (self .entry) .solver) (now (self .entry) .memory) request r (now (self .exit) .solver) (now (self .exit) .memory) ⌝ }
     {
         let Some(mut solver) = self.solver else {

@@ -15,7 +15,7 @@ fn of_record(fault: RecordFault) -> &'static str {
     }
 }
 
-pub fn ground(fault: SolverFault) -> &'static str {
+pub(crate) fn ground(fault: SolverFault) -> &'static str {
     match fault {
         SolverFault::Record(fault) => of_record(fault),
         SolverFault::Rules => "no place for a rule",

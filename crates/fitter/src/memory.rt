@@ -34,7 +34,7 @@ use sum_rule::sum::SumIsRule;
 
 impl Memory {
     // What fills it is never looked at.
-    pub fn new() -> Memory {
+    pub(crate) fn new() -> Memory {
         let shape = Octagon::start(
             &Home {
                 n: 1,
@@ -55,7 +55,7 @@ impl Memory {
     }
 
     // A solver just opened, to be lent this memory.
-    pub fn open(&self, home: &Home) -> Result<Solver<Octagon>, SolverFault>
+    pub(crate) fn open(&self, home: &Home) -> Result<Solver<Octagon>, SolverFault>
         ensures value { λ r. ⌜ view-if-any r ≡ open-call octagon-model (now (home .entry)) ⌝ }
         ensures session { λ r. ⌜ Cases r (λ s. Session (Some s) (now (self .entry))) (λ _. Unit {0}) ⌝ }
     {
@@ -63,7 +63,7 @@ impl Memory {
     }
 
     // The session's answer to a request, on this memory.
-    pub fn ask(
+    pub(crate) fn ask(
         &mut self,
         solver: &mut Solver<Octagon>,
         request: Request<AnyRule>,

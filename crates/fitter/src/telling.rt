@@ -27,7 +27,11 @@ fn tell_refusal(rt: &LibcRuntime, fault: SolverFault) -> io::Result<()> {
     println!(rt, "refused: {words} ({number})")
 }
 
-pub fn tell_home(rt: &LibcRuntime, n: u8, answer: Result<(), SolverFault>) -> io::Result<()> {
+pub(crate) fn tell_home(
+    rt: &LibcRuntime,
+    n: u8,
+    answer: Result<(), SolverFault>,
+) -> io::Result<()> {
     match answer {
         Ok(()) => {
             let end = plural(n as u32);
@@ -106,7 +110,7 @@ fn tell_accepted(rt: &LibcRuntime, counts: Counts, request: Request<AnyRule>) ->
     }
 }
 
-pub fn tell_reply(
+pub(crate) fn tell_reply(
     rt: &LibcRuntime,
     desk: &Desk,
     request: Request<AnyRule>,
