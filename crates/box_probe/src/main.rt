@@ -1,5 +1,7 @@
 // Prints a digest of every answer of small interval boxes, a line for each home and pair of nodes. What it must print
 // comes from tests/intervals/brute.py, which lists the points of each box instead.
+#![tactic(auto)]
+
 use interface::cut::Cut;
 use interface::home::Home;
 use interface::point::Point;

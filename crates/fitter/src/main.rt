@@ -1,4 +1,6 @@
 // A fitter's desk: takes plain commands from standard input, one a line, and says in plain words what each did.
+#![tactic(auto)]
+
 mod command;
 mod counts;
 mod desk;

@@ -1,4 +1,6 @@
 // How often ranges can be halved: the bits of a width, the widest of eight ranges, and all halvings together.
+#![tactic(auto)]
+
 ghost use Rattle.std.specs.Prelude.{◌≡◌, ◌+◌, ◌-◌, ◌<◌, ◌≤◌, ◌&&◌, if◌then◌else◌, ◌==◌, nat_lt, slice_index};
 ghost use Rattle.std.specs.Int.Count.{count_leading_zeros};
 ghost use Rattle.halving.specs.Halvings.{bits_for, LeastPower, widest_of, all_single, halvings_of, HalvingLowers};

@@ -1,4 +1,6 @@
 // What the parts of the solver share: the line's records, the faults, and what a shape and a rule mean.
+#![tactic(auto)]
+
 pub mod cut;
 pub mod extent;
 pub mod fault;

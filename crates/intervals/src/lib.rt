@@ -1,4 +1,6 @@
 // The interval box: a shape that keeps one range for each setting.
+#![tactic(auto)]
+
 ghost use Rattle.intervals.specs.Splits.{SplitByCuts};
 
 pub mod interval_box;

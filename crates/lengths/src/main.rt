@@ -1,4 +1,6 @@
 // The entry point at output lengths where one place more or less matters, and at small budgets: the count and the lines.
+#![tactic(auto)]
+
 use offsets::entry::offsets_solve;
 use std::io;
 use std::io::Write;

@@ -1,4 +1,6 @@
 // The octagon as a shape: the tightly closed matrix of a home and its cuts.
+#![tactic(auto)]
+
 mod lowering;
 pub mod matrix;
 mod points;

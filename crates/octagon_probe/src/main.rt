@@ -1,5 +1,7 @@
 // Prints digests of every answer of small octagons whose settings are tied to one another by odd numbers, so that rounding
 // decides limits and voidness. What it must print comes from tests/octagon/brute.py, which lists the points instead.
+#![tactic(auto)]
+
 use interface::cut::Cut;
 use interface::home::Home;
 use interface::node::opposite;

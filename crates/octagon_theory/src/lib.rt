@@ -1,4 +1,6 @@
 // The octagon's limits: what is proved of their definition. Each function does nothing; its contract is a theorem.
+#![tactic(auto)]
+
 ghost use Rattle.octagon_theory.specs.Theorems.{LeastSumsAreLeast, EveryLimitIsReached, VoidIsNoPoint, OnePointIsLeft, LimitsHoldThePoints, LimitsCanBeShown, LimitsAreTight, PointsDecideLimits, HomeAlone, OneCutAtATime, LeastValuesAreLeast};
 
 // The form of the least sums that computes gives the least sum of a chain.

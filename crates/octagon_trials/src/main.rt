@@ -1,4 +1,6 @@
 // Random homes and cuts, and what the octagon answers to each; with input, cuts alone, a thousand for each byte, for counting instructions.
+#![tactic(auto)]
+
 ghost use Rattle.std.specs.Prelude.{◌≡◌, ◌+◌, ◌<◌, ◌≤◌};
 
 use interface::cut::Cut;

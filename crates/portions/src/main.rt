@@ -1,4 +1,6 @@
 // A search with the interval box in portions, on stack slices and lists of several sizes: each outcome, and what was handed out.
+#![tactic(auto)]
+
 use interface::home::Home;
 use interface::point::Point;
 use interface::shape::Shape;

@@ -1,4 +1,6 @@
 // The solver: rules are stated on a shape, and a search hands out regions where all of them hold.
+#![tactic(auto)]
+
 pub mod classify;
 mod extents;
 mod readings;

@@ -1,4 +1,6 @@
 // Reads a problem text on standard input and prints the lines that answer it.
+#![tactic(auto)]
+
 use offsets::entry::offsets_solve;
 use std::io;
 use std::io::{Read, Write};

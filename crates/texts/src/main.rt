@@ -1,4 +1,6 @@
 // Answers many texts in one run: each line of standard input is a text, two hexadecimal digits a byte.
+#![tactic(auto)]
+
 use offsets::entry::offsets_solve;
 use std::io;
 use std::io::{Read, Write};

@@ -1,4 +1,6 @@
 // The text's layers: lines of digits, bytes, fields and frames, read and written.
+#![tactic(auto)]
+
 pub mod bytes;
 pub mod fault_line;
 pub mod frame;

@@ -10,4 +10,4 @@ returns-in-err-check-range c =
     rw (p.1, p.2) (sym (grounds_more (range_grounds c.args.self.now) c.loop-k.k _ c.loop-k-test.true _ (sym c.in-err-check-range.ensures)) ∙ c.loop-k.invariant)
 
 pub loop-k-preserved : goal.loop-k-preserved
-loop-k-preserved c = sym (grounds_more (range_grounds c.args.self.now) c.loop-k.k _ c.loop-k-test.true _ (sym c.in-ok-check-range.ensures)) ∙ c.loop-k.invariant
+loop-k-preserved c = sym (grounds_more (range_grounds c.args.self.now) c.loop-k.k _ c.loop-k-test.true _ (sym c.in_ok-check_range.ensures)) ∙ c.loop-k.invariant
