@@ -7,6 +7,6 @@ loop-k-init c = sym (every_none _)
 
 pub loop-k-preserved : goal.loop-k-preserved
 loop-k-preserved c =
-    c.single-too-all.ensures
+    c.single_too-all.ensures
     ∙ ap (λ b. eqb (get_or c.args.widths.now c.loop-k.k 0) 0 && b) c.loop-k.invariant
     ∙ sym (every_more (λ k. eqb (get_or c.args.widths.now k 0) 0) c.loop-k.k)

@@ -12,15 +12,15 @@ loop-i-preserved c =
     let a = c.args.a in
     let b = c.args.b in
     let i = c.loop-i.i in
-    let fits : SFits w32 c.halved-at.result = search rules in
+    let fits : SFits w32 c.halved_at.result = search rules in
     let fc : SFits w32 c.args.c = c.ranges.c in
-    let fx : SFits w32 (get_or c.args.by-b.now i (pos 0)) = search rules in
-    let fy : SFits w32 (get_or c.args.by-a.now i (pos 0)) = search rules in
-    let x : get_or c.args.by-b.now i (pos 0) ≡ way L a b c.args.c i = ap (λ l. get_or l i (pos 0)) c.requires.1.1.0 ∙ getD_listed (way L a b c.args.c) 16 i (omega arith) in
-    let y : get_or c.args.by-a.now i (pos 0) ≡ way L b a c.args.c i = ap (λ l. get_or l i (pos 0)) c.requires.1.1.1 ∙ getD_listed (way L b a c.args.c) 16 i (omega arith) in
-    let e = simp to_z-of_z at c.halved-at.ensures in
-    simp to_z-of_z (filled_more (halved L a b c.args.c) 16 i c.loop-i.all c.halved-at.result (omega arith)
-    (e ∙ ap (λ u. half (int_min (at L i i) (over_cut u (at L b i) (get_or c.args.by-a.now i (pos 0)) (at L a i)))) x ∙ ap (λ u. half (int_min (at L i i) (over_cut (way L a b c.args.c i) (at L b i) u (at L a i)))) y)
+    let fx : SFits w32 (get_or c.args.by_b.now i (pos 0)) = search rules in
+    let fy : SFits w32 (get_or c.args.by_a.now i (pos 0)) = search rules in
+    let x : get_or c.args.by_b.now i (pos 0) ≡ way L a b c.args.c i = ap (λ l. get_or l i (pos 0)) c.requires.1.1.0 ∙ getD_listed (way L a b c.args.c) 16 i (omega arith) in
+    let y : get_or c.args.by_a.now i (pos 0) ≡ way L b a c.args.c i = ap (λ l. get_or l i (pos 0)) c.requires.1.1.1 ∙ getD_listed (way L b a c.args.c) 16 i (omega arith) in
+    let e = simp to_z-of_z at c.halved_at.ensures in
+    simp to_z-of_z (filled_more (halved L a b c.args.c) 16 i c.loop-i.all c.halved_at.result (omega arith)
+    (e ∙ ap (λ u. half (int_min (at L i i) (over_cut u (at L b i) (get_or c.args.by_a.now i (pos 0)) (at L a i)))) x ∙ ap (λ u. half (int_min (at L i i) (over_cut (way L a b c.args.c i) (at L b i) u (at L a i)))) y)
     (simp to_z-of_z at c.loop-i.invariant))
 
 pub returns : goal.returns

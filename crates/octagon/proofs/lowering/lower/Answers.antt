@@ -13,16 +13,16 @@ pub loop-i-preserved : goal.loop-i-preserved
 loop-i-preserved c =
     let i = c.loop-i.i in
     let fc : SFits w32 c.args.c = c.ranges.c in
-    let fx : SFits w32 (get_or c.ways-by-b.result i (pos 0)) = search rules in
-    let fy : SFits w32 (get_or c.ways-by-a.result i (pos 0)) = search rules in
+    let fx : SFits w32 (get_or c.ways-by_b.result i (pos 0)) = search rules in
+    let fy : SFits w32 (get_or c.ways-by_a.result i (pos 0)) = search rules in
     let fh : SFits w32 (get_or c.halves-middle.result i (pos 0)) = search rules in
-    let by-b = c.ways-by-b.result in
-    let by-a = c.ways-by-a.result in
+    let by_b = c.ways-by_b.result in
+    let by_a = c.ways-by_a.result in
     let mid = c.halves-middle.result in
-    let row : RowLowered c.lower-row.new.limits c.loop-i.limits i c.nodes-w.result (λ q e. lowest e (get_or by-b i (pos 0)) (get_or c.row-to-b.result q (pos 0)) (get_or by-a i (pos 0)) (get_or c.row-to-a.result q (pos 0)) (get_or mid i (pos 0)) (get_or mid q (pos 0))) = simp to_z-of_z at c.lower-row.ensures in
-    let row' = subst (λ w. RowLowered c.lower-row.new.limits c.loop-i.limits i w (λ q e. lowest e (get_or by-b i (pos 0)) (get_or c.row-to-b.result q (pos 0)) (get_or by-a i (pos 0)) (get_or c.row-to-a.result q (pos 0)) (get_or mid i (pos 0)) (get_or mid q (pos 0)))) c.nodes-w.ensures row in (
+    let row : RowLowered c.lower_row.new.limits c.loop-i.limits i c.nodes-w.result (λ q e. lowest e (get_or by_b i (pos 0)) (get_or c.row-to_b.result q (pos 0)) (get_or by_a i (pos 0)) (get_or c.row-to_a.result q (pos 0)) (get_or mid i (pos 0)) (get_or mid q (pos 0))) = simp to_z-of_z at c.lower_row.ensures in
+    let row' = subst (λ w. RowLowered c.lower_row.new.limits c.loop-i.limits i w (λ q e. lowest e (get_or by_b i (pos 0)) (get_or c.row-to_b.result q (pos 0)) (get_or by_a i (pos 0)) (get_or c.row-to_a.result q (pos 0)) (get_or mid i (pos 0)) (get_or mid q (pos 0)))) c.nodes-w.ensures row in (
       search rules,
-      simp to_z-of_z (rows_more c.args.limits.now c.args.a c.args.b c.args.c c.loop-i.limits c.lower-row.new.limits i (min 16 (2 * c.args.n)) c.row-to-a.result c.row-to-b.result by-a by-b mid c.row-to-a.ensures c.row-to-b.ensures (simp to_z-of_z at c.ways-by-a.ensures) (simp to_z-of_z at c.ways-by-b.ensures) (simp to_z-of_z at c.halves-middle.ensures) (omega arith) (simp to_z-of_z at c.loop-i.invariant.1) row'),
+      simp to_z-of_z (rows_more c.args.limits.now c.args.a c.args.b c.args.c c.loop-i.limits c.lower_row.new.limits i (min 16 (2 * c.args.n)) c.row-to_a.result c.row-to_b.result by_a by_b mid c.row-to_a.ensures c.row-to_b.ensures (simp to_z-of_z at c.ways-by_a.ensures) (simp to_z-of_z at c.ways-by_b.ensures) (simp to_z-of_z at c.halves-middle.ensures) (omega arith) (simp to_z-of_z at c.loop-i.invariant.1) row'),
     )
 
 pub returns : goal.returns

@@ -6,9 +6,9 @@ use Rattle.octagon.proofs.lowering.ways.Goals as goal
 
 pub loop-i-preserved : goal.loop-i-preserved
 loop-i-preserved c =
-    let fits : SFits w32 c.way-at.result = search rules in
+    let fits : SFits w32 c.way_at.result = search rules in
     let fc : SFits w32 c.args.c = c.ranges.c in
-    simp to_z-of_z (filled_more (way c.args.limits.now c.args.a c.args.b c.args.c) 16 c.loop-i.i c.loop-i.lengths c.way-at.result (omega arith) (simp to_z-of_z at c.way-at.ensures) (simp to_z-of_z at c.loop-i.invariant))
+    simp to_z-of_z (filled_more (way c.args.limits.now c.args.a c.args.b c.args.c) 16 c.loop-i.i c.loop-i.lengths c.way_at.result (omega arith) (simp to_z-of_z at c.way_at.ensures) (simp to_z-of_z at c.loop-i.invariant))
 
 pub returns : goal.returns
 returns c =

@@ -6,8 +6,8 @@ use Rattle.octagon.proofs.matrix.home_limits.Goals as goal
 
 pub loop-k-preserved : goal.loop-k-preserved
 loop-k-preserved c =
-    let fits : SFits w32 c.home-limit-at.result = search rules in
-    filled_more (λ t. home_limit c.args.home.now (t / 16) (t % 16)) 256 c.loop-k.k c.loop-k.limits _ (omega arith) (to_z-of_z w32 c.home-limit-at.result fits ∙ c.home-limit-at.ensures) c.loop-k.invariant
+    let fits : SFits w32 c.home_limit_at.result = search rules in
+    filled_more (λ t. home_limit c.args.home.now (t / 16) (t % 16)) 256 c.loop-k.k c.loop-k.limits _ (omega arith) (to_z-of_z w32 c.home_limit_at.result fits ∙ c.home_limit_at.ensures) c.loop-k.invariant
 
 pub returns : goal.returns
 unfolding tabled listed

@@ -9,7 +9,7 @@ loop-p-init c = sym (every_none _)
 
 pub loop-p-preserved : goal.loop-p-preserved
 loop-p-preserved c =
-    c.row-under-too-all.ensures ∙ ap (λ b. row_under c.args.limits.now c.args.values.now c.args.w c.loop-p.p && b) c.loop-p.invariant ∙ sym (every_more (row_under c.args.limits.now c.args.values.now c.args.w) c.loop-p.p)
+    c.row_under_too-all.ensures ∙ ap (λ b. row_under c.args.limits.now c.args.values.now c.args.w c.loop-p.p && b) c.loop-p.invariant ∙ sym (every_more (row_under c.args.limits.now c.args.values.now c.args.w) c.loop-p.p)
 
 pub returns : goal.returns
 unfolding all_under

@@ -10,7 +10,7 @@ use Rattle.octagon.specs.Offering.{bounds_more, bounds_all}
 use Rattle.octagon.proofs.points.next_value.Goals as goal
 
 pub loop-p-init : goal.loop-p-init
-loop-p-init c = let f : SFits w64 c.own-bound-low.result = search rules in to_z-of_z w64 c.own-bound-low.result f ∙ c.own-bound-low.ensures
+loop-p-init c = let f : SFits w64 c.own_bound-low.result = search rules in to_z-of_z w64 c.own_bound-low.result f ∙ c.own_bound-low.ensures
 
 pub loop-p-preserved : goal.loop-p-preserved
 loop-p-preserved c =
@@ -19,9 +19,9 @@ loop-p-preserved c =
     let f : ℕ → ℤ = λ p. value c.args.values.now p -ℤ L p (2 * k + 1) in
     let a = neg_ℤ (half (L (2 * k + 1) (2 * k + 1))) in
     let fm : SFits w64 c.max-low.result = search rules in
-    let fb : SFits w64 c.bound-by.result = search rules in
+    let fb : SFits w64 c.bound_by.result = search rules in
     let low = c.loop-p.invariant in
-    let here = to_z-of_z w64 c.bound-by.result fb ∙ c.bound-by.ensures in
+    let here = to_z-of_z w64 c.bound_by.result fb ∙ c.bound_by.ensures in
     to_z-of_z w64 c.max-low.result fm ∙ c.max-low.ensures.value ∙ (λ i. int_max (low i) (here i)) ∙ bounds_more f a c.loop-p.p
 
 pub returns : goal.returns

@@ -12,7 +12,7 @@ loop-q-init c = sym (every_none _)
 pub loop-q-preserved : goal.loop-q-preserved
 loop-q-preserved c =
     let t : ℕ → Bool = λ q. le_z (value c.args.values.now c.args.p +ℤ value c.args.values.now q) (at c.args.limits.now c.args.p q) in
-    c.under-too-all.ensures ∙ ap (λ b. t c.loop-q.q && b) c.loop-q.invariant ∙ sym (every_more t c.loop-q.q)
+    c.under_too-all.ensures ∙ ap (λ b. t c.loop-q.q && b) c.loop-q.invariant ∙ sym (every_more t c.loop-q.q)
 
 pub returns : goal.returns
 returns c =

@@ -12,7 +12,7 @@ returns c =
     let big = c.if-output-lt1897.false in
     let fs = entry-frames octagon_model c.args.input.now c.args.budget (length d) in
     let fit = frames_fit c.args.input.now c.args.budget (length d) big in
-    let whole = written_whole d 0 fs _ _ c.answer-into.ensures (omega (arith, fit)) in
+    let whole = written_whole d 0 fs _ _ c.answer_into.ensures (omega (arith, fit)) in
     let test : ltb (length d) 1897 ≡ false = le-ltb (length d) 1897 big in
     let count = whole.1 in
     record {

@@ -16,6 +16,6 @@ returns-in-Ok c =
     let rs = rules_in c.args.problem.now in
     let room = room_in (length c.args.output.now) in
     let m = memory octagon_model (octagon_model.start h) room in
-    c.solve-opened.ensures
+    c.solve_opened.ensures
     ∙ ap (λ v. put_frames (lines c.args.output.now 0) (answered-in octagon_model (record { solver = v; rules = m.rules; checkpoints = m.checkpoints; stack = m.stack }) m.out rs c.args.budget)) (opened_is (home_check h) (view c.in-Ok.solver) (opened octagon_model h) c.in-Ok.ensures)
     ∙ ap (λ o. put_frames (lines c.args.output.now 0) (opened-frames octagon_model o h rs c.args.budget room)) c.in-Ok.ensures

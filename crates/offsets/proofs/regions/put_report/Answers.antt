@@ -11,6 +11,6 @@ pub returns : goal.returns
 returns c =
     let p = c.args.report in
     let end = end_frame p.outcome p.found p.steps ∷ [] in
-    c.put-end.ensures.after
-    ∙ ap (λ s. put_frames s end) (c.put-all-at.ensures ∙ ap (λ gs. put_frames (lines c.args.output.now 0) (flat_map (frames-of octagon_model) gs)) c.front.ensures)
+    c.put_end.ensures.after
+    ∙ ap (λ s. put_frames s end) (c.put_all-at.ensures ∙ ap (λ gs. put_frames (lines c.args.output.now 0) (flat_map (frames-of octagon_model) gs)) c.front.ensures)
     ∙ sym (put_on (flat_map (frames-of octagon_model) _) end (lines c.args.output.now 0))

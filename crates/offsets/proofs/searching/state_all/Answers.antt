@@ -12,9 +12,9 @@ use Rattle.offsets.proofs.searching.state_all.Goals as goal
 pub loop-rule-preserved : goal.loop-rule-preserved
 loop-rule-preserved c =
     let l = c.loop-rule in (
-      c.state-one.ensures.out ∙ l.invariant.0,
-      ap (λ o. after-calls octagon_model any_model (world_of c.state-one.new.solver c.state-one.new.rules c.state-one.new.checkpoints c.state-one.new.stack) o (map State (drop (l.rule-index + 1) c.args.stated.now))) c.state-one.ensures.out
-          ∙ fold_more {W = World Octagon AnyRule} (λ w rs. after-calls octagon_model any_model w l.out (map State rs)) (λ w r. (answer octagon_model any_model w l.out (State r)).world) (λ w x xs. refl) c.args.stated.now l.rule-index _ _ (world_of l.solver l.rules l.checkpoints l.stack) _ c.loop-rule-test.true refl c.state-one.ensures.world
+      c.state_one.ensures.out ∙ l.invariant.0,
+      ap (λ o. after-calls octagon_model any_model (world_of c.state_one.new.solver c.state_one.new.rules c.state_one.new.checkpoints c.state_one.new.stack) o (map State (drop (l.rule-index + 1) c.args.stated.now))) c.state_one.ensures.out
+          ∙ fold_more {W = World Octagon AnyRule} (λ w rs. after-calls octagon_model any_model w l.out (map State rs)) (λ w r. (answer octagon_model any_model w l.out (State r)).world) (λ w x xs. refl) c.args.stated.now l.rule-index _ _ (world_of l.solver l.rules l.checkpoints l.stack) _ c.loop-rule-test.true refl c.state_one.ensures.world
           ∙ l.invariant.1,
     )
 

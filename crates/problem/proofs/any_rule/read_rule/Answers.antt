@@ -12,4 +12,4 @@ use Rattle.problem.proofs.any_rule.read_rule.Goals as goal
 pub returns : goal.returns
 returns c =
     let bs = unhex c.args.digits.now in
-    neither {X = AnyRule} _ c.byte-at-code.result (First ((by_table pair_codec).read bs)) (Second (First ((by_table sum_codec).read bs))) _ (λ k. Second (Second (other_rule k bs))) c.byte-at-code.ensures c.if-code-eq2.false c.if-code-eq3.false (ap (λ o. Second (Second o)) c.other_rule.ensures)
+    neither {X = AnyRule} _ c.byte_at-code.result (First ((by_table pair_codec).read bs)) (Second (First ((by_table sum_codec).read bs))) _ (λ k. Second (Second (other_rule k bs))) c.byte_at-code.ensures c.if-code-eq2.false c.if-code-eq3.false (ap (λ o. Second (Second o)) c.other_rule.ensures)

@@ -7,13 +7,13 @@ use Rattle.problem.specs.Reading.{rules_from}
 use Rattle.problem.proofs.Lines.{stepped, counted, room}
 use Rattle.problem.proofs.problem.read_rules.Goals as goal
 
-pub returns-in-default : goal.returns-in-default
-returns-in-default c =
+pub returns-in_default : goal.returns-in_default
+returns-in_default c =
     let i = c.loop-k.invariant in
     let p = c.loop-k.problem in
     record {
       home = i.0;
-      rules = sym (stepped c.loop-k.k c.args.lines p.home.n p.count c.loop-k.reader c.stated_line.new.reader (rules_in p) (Ok None) c.loop-k-test.true (counted p i.1 i.2) (ap Ok (sym c.in-default.is) ∙ c.in-Ok.ensures.value) c.in-Ok.ensures.after) ∙ i.3;
+      rules = sym (stepped c.loop-k.k c.args.lines p.home.n p.count c.loop-k.reader c.stated_line.new.reader (rules_in p) (Ok None) c.loop-k-test.true (counted p i.1 i.2) (ap Ok (sym c.in_default.is) ∙ c.in-Ok.ensures.value) c.in-Ok.ensures.after) ∙ i.3;
     }
 
 pub add-requires : goal.add-requires

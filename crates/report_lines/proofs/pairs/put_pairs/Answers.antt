@@ -9,7 +9,7 @@ unfolding pair_frames
 loop-k-init c = refl
 
 pub loop-k-preserved : goal.loop-k-preserved
-loop-k-preserved c = sym (left_more (pair_at c.args.reading.now) 256 (lines c.loop-k.out c.loop-k.at) (lines c.put-pair-at.new.out c.put-pair-at.result) c.loop-k.k c.loop-k-test.true c.put-pair-at.ensures) ∙ c.loop-k.invariant
+loop-k-preserved c = sym (left_more (pair_at c.args.reading.now) 256 (lines c.loop-k.out c.loop-k.at) (lines c.put_pair-at.new.out c.put_pair-at.result) c.loop-k.k c.loop-k-test.true c.put_pair-at.ensures) ∙ c.loop-k.invariant
 
 pub returns : goal.returns
 returns c = sym (left_none (pair_at c.args.reading.now) 256 (lines c.loop-k.out c.loop-k.at) c.loop-k.k (omega arith)) ∙ c.loop-k.invariant

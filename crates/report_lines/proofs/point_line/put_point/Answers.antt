@@ -6,5 +6,5 @@ use Rattle.report_lines.proofs.point_line.put_point.Goals as goal
 pub returns : goal.returns
 returns c =
     let eight : length c.args.point.now.values ≡ 8 = search rules in
-    let e = point_front c.args.point.now eight c.point-bytes-bytes.result c.point-size.result c.point-bytes-bytes.ensures c.point-size.ensures in
+    let e = point_front c.args.point.now eight c.point_bytes-bytes.result c.point_size.result c.point_bytes-bytes.ensures c.point_size.ensures in
     c.append.ensures ∙ ap (put_frame (lines c.args.out.now c.args.at)) e

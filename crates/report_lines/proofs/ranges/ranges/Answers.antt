@@ -11,10 +11,10 @@ loop-k-preserved c =
     let g = c.args.reading.now in
     let low : ℕ → ℤ = first_or_0 g.n (low_at g) in
     let high : ℕ → ℤ = first_or_0 g.n (high_at g) in
-    let low_fits : SFits w32 c.low-or-0.result = search rules in
-    let high_fits : SFits w32 c.high-or-0.result = search rules in
-    let low-put = to_z-of_z w32 c.low-or-0.result low_fits ∙ c.low-or-0.ensures in
-    let high-put = to_z-of_z w32 c.high-or-0.result high_fits ∙ c.high-or-0.ensures in (
+    let low_fits : SFits w32 c.low_or_0.result = search rules in
+    let high_fits : SFits w32 c.high_or_0.result = search rules in
+    let low-put = to_z-of_z w32 c.low_or_0.result low_fits ∙ c.low_or_0.ensures in
+    let high-put = to_z-of_z w32 c.high_or_0.result high_fits ∙ c.high_or_0.ensures in (
       length-set _ _ _ ∙ c.loop-k.invariant.0,
       λ t h. ap (λ v. get_or (set c.loop-k.lows c.loop-k.k v) t (pos 0)) low-put ∙ fill_by_more low c.loop-k.lows c.loop-k.k (pos 0) (omega arith) c.loop-k.invariant.1 t h,
       length-set _ _ _ ∙ c.loop-k.invariant.2,

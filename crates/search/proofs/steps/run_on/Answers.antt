@@ -10,7 +10,7 @@ pub turns-init : goal.turns-init
 turns-init g c = (c.requires, omega arith, ap (λ b. run-from g.S.Shape.model g.R.Rule.model c.args.rules.now b 0 (work_of c.args.progress.now c.args.stack.now c.args.out.now)) (sub-zero c.args.budget))
 
 pub turns-preserved : goal.turns-preserved
-turns-preserved g c = (c.turn.ensures.bound, omega (arith, c.in-default.ensures.below), sym (turn_made g.S.Shape.model g.R.Rule.model c.args.rules.now (work_of c.turns.progress c.turns.stack c.turns.out) c.args.budget c.turns.steps c.turns.invariant.1 (work_of c.turn.new.progress c.turn.new.stack c.turn.new.out) c.in-default.ensures.after) ∙ c.turns.invariant.2)
+turns-preserved g c = (c.turn.ensures.bound, omega (arith, c.in_default.ensures.below), sym (turn_made g.S.Shape.model g.R.Rule.model c.args.rules.now (work_of c.turns.progress c.turns.stack c.turns.out) c.args.budget c.turns.steps c.turns.invariant.1 (work_of c.turn.new.progress c.turn.new.stack c.turn.new.out) c.in_default.ensures.after) ∙ c.turns.invariant.2)
 
 pub returns-in-Err : goal.returns-in-Err
 returns-in-Err g c = sym (turn_stopped g.S.Shape.model g.R.Rule.model c.args.rules.now (work_of c.turns.progress c.turns.stack c.turns.out) c.args.budget c.turns.steps c.turns.invariant.1 (work_of c.turn.new.progress c.turn.new.stack c.turn.new.out) c.in-Err.outcome c.in-Err.ensures.after) ∙ c.turns.invariant.2

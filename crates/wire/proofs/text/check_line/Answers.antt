@@ -5,6 +5,6 @@ use Rattle.wire.proofs.text.check_line.Goals as goal
 
 pub returns : goal.returns
 returns c = record {
-  value = c.line-faults.ensures;
-  says = subst (LineSays c.args.line.now c.args.ended) (sym c.line-faults.ensures) (line_says c.args.line.now c.args.ended);
+  value = c.line_faults.ensures;
+  says = subst (LineSays c.args.line.now c.args.ended) (sym c.line_faults.ensures) (line_says c.args.line.now c.args.ended);
 }

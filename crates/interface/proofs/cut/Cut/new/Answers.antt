@@ -3,5 +3,5 @@ use Rattle.std.proofs.Common.{w32}
 use Rattle.interface.proofs.Cuts.{cut_made}
 use Rattle.interface.proofs.cut.Cut.new.Goals as goal
 
-pub returns-then-is-cut : goal.returns-then-is-cut
-returns-then-is-cut c = cut_made _ _ c.args.c _ (to_z-of_z w32 c.args.c c.ranges.c) _
+pub returns-then-is_cut : goal.returns-then-is_cut
+returns-then-is_cut c = cut_made _ _ c.args.c _ (to_z-of_z w32 c.args.c c.ranges.c) _

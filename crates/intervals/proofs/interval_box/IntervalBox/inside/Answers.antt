@@ -9,6 +9,6 @@ loop-k-init c = sym (every_none _)
 
 pub loop-k-preserved : goal.loop-k-preserved
 loop-k-preserved c =
-    c.inside-too-all.ensures
+    c.inside_too-all.ensures
     ∙ ap (λ b. in_range c.args.self.now c.loop-k.k (get_or (values_of c.args.point.now) c.loop-k.k (pos 0)) && b) c.loop-k.invariant
     ∙ sym (every_more (λ k. in_range c.args.self.now k (get_or (values_of c.args.point.now) k (pos 0))) c.loop-k.k)

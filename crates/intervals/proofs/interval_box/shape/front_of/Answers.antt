@@ -11,11 +11,11 @@ loop-k-preserved c =
     let fits : SFits w32 c.kept.result = search rules in
     let put = to_z-of_z w32 c.kept.result fits ∙ c.kept.ensures in (
       length-set _ _ _ ∙ c.loop-k.invariant.0,
-      λ t h. ap (λ v. get_or (set c.loop-k.kept-values c.loop-k.k v) t (pos 0)) put ∙ fill_by_more f c.loop-k.kept-values c.loop-k.k (pos 0) (omega arith) c.loop-k.invariant.1 t h,
+      λ t h. ap (λ v. get_or (set c.loop-k.kept_values c.loop-k.k v) t (pos 0)) put ∙ fill_by_more f c.loop-k.kept_values c.loop-k.k (pos 0) (omega arith) c.loop-k.invariant.1 t h,
     )
 
 pub returns : goal.returns
 unfolding front
 returns c =
     let f : ℕ → ℤ = λ t. cond (ltb t c.args.n) (get_or c.args.values.now t (pos 0)) (pos 0) in
-    fill_by_all f c.loop-k.kept-values 8 (pos 0) c.loop-k.invariant.0 (λ k h. c.loop-k.invariant.1 k (omega arith))
+    fill_by_all f c.loop-k.kept_values 8 (pos 0) c.loop-k.invariant.0 (λ k h. c.loop-k.invariant.1 k (omega arith))

@@ -6,5 +6,5 @@ use Rattle.octagon.proofs.matrix.Octagon.same_size.Goals as goal
 pub returns : goal.returns
 returns c =
     let l = length-take c.args.point.now.n c.args.point.now.values in
-    let e : c.at-most-eight.result ≡ length (values_of c.args.point.now) = omega (arith, l) in
+    let e : c.at_most_eight.result ≡ length (values_of c.args.point.now) = omega (arith, l) in
     ap (λ k. eqb k c.args.self.now.n) e

@@ -3,4 +3,4 @@ use Rattle.octagon.proofs.Defined.{halvings_defined}
 use Rattle.octagon.proofs.shape.OctagonShape.halvings.Goals as goal
 
 pub returns : goal.returns
-returns c = record { value = c.count-halvings.ensures; made = λ h ts ok e. c.count-halvings.ensures ∙ halvings_defined c.args.self.now h ts ok e }
+returns c = record { value = c.count_halvings.ensures; made = λ h ts ok e. c.count_halvings.ensures ∙ halvings_defined c.args.self.now h ts ok e }

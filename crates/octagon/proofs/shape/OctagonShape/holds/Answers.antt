@@ -5,4 +5,4 @@ use Rattle.octagon.proofs.Defined.{holds_defined}
 use Rattle.octagon.proofs.shape.OctagonShape.holds.Goals as goal
 
 pub returns : goal.returns
-returns c = record { value = c.holds-point.ensures; made = λ h ts ok e. subst (λ b. Decides b (Within h ts (values_of c.args.point.now))) (sym c.holds-point.ensures) (holds_defined c.args.self.now h ts ok e (values_of c.args.point.now)) }
+returns c = record { value = c.holds_point.ensures; made = λ h ts ok e. subst (λ b. Decides b (Within h ts (values_of c.args.point.now))) (sym c.holds_point.ensures) (holds_defined c.args.self.now h ts ok e (values_of c.args.point.now)) }

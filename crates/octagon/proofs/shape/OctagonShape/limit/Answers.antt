@@ -5,6 +5,6 @@ use Rattle.octagon.proofs.shape.OctagonShape.limit.Goals as goal
 
 pub returns : goal.returns
 returns c =
-    let fits : SFits w32 c.limit-of.result = search rules in
-    let v = to_z-of_z w32 c.limit-of.result fits ∙ c.limit-of.ensures in
+    let fits : SFits w32 c.limit_of.result = search rules in
+    let v = to_z-of_z w32 c.limit_of.result fits ∙ c.limit_of.ensures in
     record { value = v; made = λ h ts ok e. v ∙ limit_defined c.args.self.now h ts ok e c.args.p c.args.q }

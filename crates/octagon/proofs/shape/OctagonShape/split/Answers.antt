@@ -7,5 +7,5 @@ use Rattle.octagon.proofs.shape.OctagonShape.split.Goals as goal
 
 pub returns : goal.returns
 returns c =
-    let v : ◌≡◌ {A = Octagon × Octagon} (c.lower-part.result, c.upper-part.result) (lower_of c.args.self.now, upper_of c.args.self.now) = λ i. (c.lower-part.ensures i, c.upper-part.ensures i) in
+    let v : ◌≡◌ {A = Octagon × Octagon} (c.lower_part.result, c.upper_part.result) (lower_of c.args.self.now, upper_of c.args.self.now) = λ i. (c.lower_part.ensures i, c.upper_part.ensures i) in
     record { value = v; made = λ h ts ok e. subst (SplitInTwo h ts) (sym v) (split_defined c.args.self.now h ts ok e) }

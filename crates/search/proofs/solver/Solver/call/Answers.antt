@@ -10,6 +10,6 @@ pub returns : goal.returns
 returns g c =
     let w : World g.row.S.Denot g.row.R.Denot = world_of c.args.self.now c.args.rules.now c.args.checkpoints.now c.args.stack.now in
     record {
-      answers = c.call-any.ensures;
-      promise = subst (Promised g.S.Shape.model g.R.Rule.model w c.args.request) (sym c.call-any.ensures) (λ l rest more deep h. promised g.met.S.Shape.laws g.met.R.Rule.laws l w rest more deep h c.args.out.now c.args.request);
+      answers = c.call_any.ensures;
+      promise = subst (Promised g.S.Shape.model g.R.Rule.model w c.args.request) (sym c.call_any.ensures) (λ l rest more deep h. promised g.met.S.Shape.laws g.met.R.Rule.laws l w rest more deep h c.args.out.now c.args.request);
     }

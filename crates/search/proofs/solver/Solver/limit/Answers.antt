@@ -7,6 +7,6 @@ use Rattle.search.proofs.solver.Solver.limit.Goals as goal
 
 pub returns : goal.returns
 returns g c = record {
-  answers = c.limit-any.ensures;
-  bounds = subst (LimitBounds g.S.Shape.model (view c.args.self.now) c.args.p c.args.q) (sym c.limit-any.ensures) (limit_bounds g.met.S.Shape.laws (view c.args.self.now) c.args.p c.args.q);
+  answers = c.limit_any.ensures;
+  bounds = subst (LimitBounds g.S.Shape.model (view c.args.self.now) c.args.p c.args.q) (sym c.limit_any.ensures) (limit_bounds g.met.S.Shape.laws (view c.args.self.now) c.args.p c.args.q);
 }

@@ -6,6 +6,6 @@ use Rattle.search.proofs.solver.Solver.open.Goals as goal
 
 pub returns : goal.returns
 returns g c = record {
-  answers = c.open-any.ensures;
-  opens = subst (Opens g.S.Shape.model c.args.home.now) (sym c.open-any.ensures) (opens g.met.S.Shape.laws c.args.home.now);
+  answers = c.open_any.ensures;
+  opens = subst (Opens g.S.Shape.model c.args.home.now) (sym c.open_any.ensures) (opens g.met.S.Shape.laws c.args.home.now);
 }

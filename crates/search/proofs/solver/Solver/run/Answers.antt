@@ -9,7 +9,7 @@ use Rattle.search.proofs.solver.Solver.run.Goals as goal
 
 pub returns : goal.returns
 returns g c = record {
-  answers = c.run-any.ensures;
-  laws = subst (RunLaws g.S.Shape.model g.R.Rule.model (view c.args.self.now) c.args.rules.now c.args.stack.now c.args.out.now c.args.budget) (sym c.run-any.ensures) (run_laws g.met.S.Shape.laws g.met.R.Rule.laws (view c.args.self.now) c.args.rules.now c.args.stack.now c.args.out.now c.args.budget);
-  portions = subst (InPortions g.S.Shape.model g.R.Rule.model (view c.args.self.now) c.args.rules.now c.args.stack.now c.args.budget) (sym c.run-any.ensures) (λ b other whole. portions g.S.Shape.model g.R.Rule.model (view c.args.self.now) c.args.rules.now c.args.stack.now c.args.budget b c.args.out.now other whole);
+  answers = c.run_any.ensures;
+  laws = subst (RunLaws g.S.Shape.model g.R.Rule.model (view c.args.self.now) c.args.rules.now c.args.stack.now c.args.out.now c.args.budget) (sym c.run_any.ensures) (run_laws g.met.S.Shape.laws g.met.R.Rule.laws (view c.args.self.now) c.args.rules.now c.args.stack.now c.args.out.now c.args.budget);
+  portions = subst (InPortions g.S.Shape.model g.R.Rule.model (view c.args.self.now) c.args.rules.now c.args.stack.now c.args.budget) (sym c.run_any.ensures) (λ b other whole. portions g.S.Shape.model g.R.Rule.model (view c.args.self.now) c.args.rules.now c.args.stack.now c.args.budget b c.args.out.now other whole);
 }

@@ -10,19 +10,19 @@ returns-then-self-text c = record {
   after = none_moves c.args.self.now c.if-self-text.true;
 }
 
-pub returns-in-err-check-line : goal.returns-in-err-check-line
-returns-in-err-check-line c =
-    let p = err_from_is_err_and c.from-residual.result c.from-residual.ensures.1 in
-    let fault = Err c.in-err-check-line.field-0.0 in
+pub returns-in_err-check_line : goal.returns-in_err-check_line
+returns-in_err-check_line c =
+    let p = err_from_is_err_and c.from_residual.result c.from_residual.ensures.1 in
+    let fault = Err c.in_err-check_line.field-0.0 in
     record {
-      value = rw (p.1, p.2) (sym (line_answered c.args.self.now c.line-end-end.result fault c.if-self-text.false c.line-end-end.ensures.value c.in-err-check-line.ensures.value));
-      after = line_moves c.args.self.now c.line-end-end.result fault c.if-self-text.false c.line-end-end.ensures.value c.in-err-check-line.ensures.value c.next-number-self.result c.args.self.now.pos c.next-number-self.ensures (omega arith);
+      value = rw (p.1, p.2) (sym (line_answered c.args.self.now c.line_end-end.result fault c.if-self-text.false c.line_end-end.ensures.value c.in_err-check_line.ensures.value));
+      after = line_moves c.args.self.now c.line_end-end.result fault c.if-self-text.false c.line_end-end.ensures.value c.in_err-check_line.ensures.value c.next_number-self.result c.args.self.now.pos c.next_number-self.ensures (omega arith);
     }
 
 pub returns : goal.returns
 returns c =
-    let long = part_long c.args.self.now c.line-end-end.result (Ok tt) c.if-self-text.false c.line-end-end.ensures.value c.in-ok-check-line.ensures.value c.line-end-end.ensures.bound in
+    let long = part_long c.args.self.now c.line_end-end.result (Ok tt) c.if-self-text.false c.line_end-end.ensures.value c.in_ok-check_line.ensures.value c.line_end-end.ensures.bound in
     record {
-      value = sym (line_answered c.args.self.now c.line-end-end.result (Ok tt) c.if-self-text.false c.line-end-end.ensures.value c.in-ok-check-line.ensures.value);
-      after = line_moves c.args.self.now c.line-end-end.result (Ok tt) c.if-self-text.false c.line-end-end.ensures.value c.in-ok-check-line.ensures.value c.next-number-self.result c.behind-feed-self.result c.next-number-self.ensures (omega (arith, long, c.line-end-end.ensures.value, c.behind-feed-self.ensures));
+      value = sym (line_answered c.args.self.now c.line_end-end.result (Ok tt) c.if-self-text.false c.line_end-end.ensures.value c.in_ok-check_line.ensures.value);
+      after = line_moves c.args.self.now c.line_end-end.result (Ok tt) c.if-self-text.false c.line_end-end.ensures.value c.in_ok-check_line.ensures.value c.next_number-self.result c.behind_feed-self.result c.next_number-self.ensures (omega (arith, long, c.line_end-end.ensures.value, c.behind_feed-self.ensures));
     }
