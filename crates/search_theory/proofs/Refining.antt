@@ -35,7 +35,7 @@ module _ {S R : Type 0} {M : ShapeModel S} {K : RuleModel R} (L : ShapeLaws M) (
     same_n = L.cut_n s m t;
     no_more_halvings = L.cut_halvings s m t;
     adds_none = L.cut_adds_none s m t;
-    keeps = λ x p h. L.cut_Keeps s m t x h (met t refl x p h);
+    keeps = λ x p h. L.cut_keeps s m t x h (met t refl x p h);
   }
 
   narrowed_tighten : (s : S) → Made M s → (r : R) (i : ℕ) → ((x : List ℤ) → P x → K.meets (M.n s) r x ≡ true) → Narrowed M P s (tighten M K r i s)

@@ -122,7 +122,7 @@ write_all (f ∷ fs) i bs a laid long =
 
 module _ {R : Type 0} (C : Codec R) (L : CodecLaws C) where
   back : (n : ℕ) → 0 < n → n ≤ 8 → (r : R) → C.check n r ≡ Ok tt → (by_table C).read ((by_table C).write r) ≡ r
-  back n low high r ok = ap C.from (read_all C.table (C.fields r) (C.code ∷ []) (L.fit n low high r ok) L.laid) ∙ L.from_Fields r
+  back n low high r ok = ap C.from (read_all C.table (C.fields r) (C.code ∷ []) (L.fit n low high r ok) L.laid) ∙ L.from_fields r
 
   -- both round trips of a frame that goes by a table
   pub by_table_laws : FrameLaws (by_table C)
