@@ -11,9 +11,8 @@ import sys
 
 LETTER = r"A-Za-z0-9_'\u2032"
 NAME = rf"[A-Za-z][{LETTER}-]*"
-TOP = re.compile(rf"^(?:(?:abbrev|unfoldable|pub|data|record) )*({NAME}) *(?:[{{(][^:]*:[^:]*)?: *(.*)")
+TOP = re.compile(rf"^\s*(?:(?:abbrev|unfoldable|pub|data|record) )*({NAME}) *(?:[{{(][^:]*:[^:]*)*: *(.*)")
 OTHERWISE = {"nat-abs": "pos_unsigned_abs"}  # Rattle's library has nat_abs
-INNER = re.compile(rf"^\s+(?:pub )?({NAME}) : ")
 GOAL = re.compile(r"(goal|need|given)\.")
 
 
@@ -31,11 +30,8 @@ def own():
     for path in files((".antt",)):
         for line in open(path, encoding="utf-8"):
             top = TOP.match(line)
-            inner = INNER.match(line)
             if top and not GOAL.match(top.group(2)):
                 found[top.group(1)].add(path)
-            elif inner:
-                found[inner.group(1)].add(path)
     return found
 
 

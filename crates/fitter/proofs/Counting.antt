@@ -16,9 +16,9 @@ use Rattle.search_theory.specs.declared.reply.Reply.{Reply}
 use Rattle.search_theory.specs.declared.reply.Reply.TheVariants.{Ran, LimitIs}
 use Rattle.search_theory.specs.declared.request.Request.{Request}
 use Rattle.search_theory.specs.declared.request.Request.TheVariants.{State, Mark, Back, Keep, Begin, Run, Leave, Limit}
-use Rattle.search_theory.specs.Calls.{state-grounds, mark-grounds, back-grounds, keep-grounds, begin-grounds, leave-grounds, run_grounds, limit-call, stated, marked, restored, at_hand, after_run}
+use Rattle.search_theory.specs.Calls.{state_grounds, mark_grounds, back_grounds, keep_grounds, begin_grounds, leave_grounds, run_grounds, limit_call, stated, marked, restored, at_hand, after_run}
 use Rattle.search_theory.specs.Requests.{World, Answered, answer, replied, accepted}
-use Rattle.search_theory.specs.Runs.{run-from, report_of}
+use Rattle.search_theory.specs.Runs.{run_from, report_of}
 use Rattle.search_theory.specs.Solving.{Solving, Left, left, refused, decided}
 use Rattle.fitter.specs.declared.counts.Counts.{Counts}
 use Rattle.fitter.specs.declared.store.Memory.{Memory}
@@ -54,17 +54,17 @@ module _ (w : World Octagon AnyRule) (out : List (Region Octagon)) where
 
   follows : (q : Request AnyRule) → Follows q
   follows (State r) =
-      by_ground accepted (State r) s w.rules w.checkpoints (first_fault (state-grounds octagon_model any_model s w.rules r)) (left (Ok tt) (stated octagon_model any_model s r) (set w.rules s.rules r)) tt refl
-      (λ e. let h = none_after_record (any_model.check (octagon_model.n s.shape) r) _ (none_hold (state-grounds octagon_model any_model s w.rules r) tt e).1.1 in ap (λ k. record { rules = k; marks = s.marks }) (sym (grown s.rules _ _ h.0)))
+      by_ground accepted (State r) s w.rules w.checkpoints (first_fault (state_grounds octagon_model any_model s w.rules r)) (left (Ok tt) (stated octagon_model any_model s r) (set w.rules s.rules r)) tt refl
+      (λ e. let h = none_after_record (any_model.check (octagon_model.n s.shape) r) _ (none_hold (state_grounds octagon_model any_model s w.rules r) tt e).1.1 in ap (λ k. record { rules = k; marks = s.marks }) (sym (grown s.rules _ _ h.0)))
   follows Mark =
-      by_ground accepted Mark s w.checkpoints (answer octagon_model any_model w out Mark).world.checkpoints (first_fault (mark-grounds s w.checkpoints)) (left (Ok tt) (marked s) (set w.checkpoints s.marks (record { shape = s.shape; rules = s.rules }))) tt refl
-      (λ e. let h = none_hold (mark-grounds s w.checkpoints) tt e in ap (λ k. record { rules = s.rules; marks = k }) (sym (grown s.marks _ _ h.1.1.0)))
-  follows Back = by_ground accepted Back s (tt {0}) w.checkpoints (first_fault (back-grounds s w.checkpoints)) (left (Ok tt) (restored s (slice_get w.checkpoints (s.marks - 1))) (tt {0})) tt refl (λ e. back_is s (slice_get w.checkpoints (s.marks - 1)))
-  follows Keep = by_ground accepted Keep s (tt {0}) w.checkpoints (first_fault (keep-grounds s)) (left (Ok tt) (record { shape = s.shape; rules = s.rules; marks = s.marks - 1; waiting = s.waiting; phase = s.phase; found = s.found }) (tt {0})) tt refl (λ e. refl)
-  follows Begin = by_ground accepted Begin s w.stack w.checkpoints (first_fault (begin-grounds s w.stack)) (left (Ok tt) (record { shape = s.shape; rules = s.rules; marks = s.marks; waiting = 1; phase = Searching; found = false }) (set w.stack 0 s.shape)) tt refl (λ e. refl)
-  follows (Run b) = by_ground Ran (Run b) s (w.stack, out) w.checkpoints (first_fault (run_grounds s w.rules w.stack)) (after_run s (run-from octagon_model any_model (take s.rules w.rules) b 0 (at_hand s w.stack out))) (report_of (run-from octagon_model any_model (take s.rules w.rules) b 0 (at_hand s w.stack out))) refl (λ e. refl)
-  follows Leave = by_ground accepted Leave s (tt {0}) w.checkpoints (first_fault (leave-grounds s)) (left (Ok tt) (record { shape = s.shape; rules = s.rules; marks = s.marks; waiting = 0; phase = Stating; found = s.found }) (tt {0})) tt refl (λ e. refl)
-  follows (Limit p q) = same_by (replied LimitIs (limit-call octagon_model s p q)) (counted s)
+      by_ground accepted Mark s w.checkpoints (answer octagon_model any_model w out Mark).world.checkpoints (first_fault (mark_grounds s w.checkpoints)) (left (Ok tt) (marked s) (set w.checkpoints s.marks (record { shape = s.shape; rules = s.rules }))) tt refl
+      (λ e. let h = none_hold (mark_grounds s w.checkpoints) tt e in ap (λ k. record { rules = s.rules; marks = k }) (sym (grown s.marks _ _ h.1.1.0)))
+  follows Back = by_ground accepted Back s (tt {0}) w.checkpoints (first_fault (back_grounds s w.checkpoints)) (left (Ok tt) (restored s (slice_get w.checkpoints (s.marks - 1))) (tt {0})) tt refl (λ e. back_is s (slice_get w.checkpoints (s.marks - 1)))
+  follows Keep = by_ground accepted Keep s (tt {0}) w.checkpoints (first_fault (keep_grounds s)) (left (Ok tt) (record { shape = s.shape; rules = s.rules; marks = s.marks - 1; waiting = s.waiting; phase = s.phase; found = s.found }) (tt {0})) tt refl (λ e. refl)
+  follows Begin = by_ground accepted Begin s w.stack w.checkpoints (first_fault (begin_grounds s w.stack)) (left (Ok tt) (record { shape = s.shape; rules = s.rules; marks = s.marks; waiting = 1; phase = Searching; found = false }) (set w.stack 0 s.shape)) tt refl (λ e. refl)
+  follows (Run b) = by_ground Ran (Run b) s (w.stack, out) w.checkpoints (first_fault (run_grounds s w.rules w.stack)) (after_run s (run_from octagon_model any_model (take s.rules w.rules) b 0 (at_hand s w.stack out))) (report_of (run_from octagon_model any_model (take s.rules w.rules) b 0 (at_hand s w.stack out))) refl (λ e. refl)
+  follows Leave = by_ground accepted Leave s (tt {0}) w.checkpoints (first_fault (leave_grounds s)) (left (Ok tt) (record { shape = s.shape; rules = s.rules; marks = s.marks; waiting = 0; phase = Stating; found = s.found }) (tt {0})) tt refl (λ e. refl)
+  follows (Limit p q) = same_by (replied LimitIs (limit_call octagon_model s p q)) (counted s)
 
 pub counts_follow : (s s' : Solver Octagon) (m m' : Memory) (q : Request AnyRule) (r : Result Reply SolverFault) (c : Counts) → answered_by r (world s' m') m'.regions ≡ answer octagon_model any_model (world s m) m.regions q → (view s).rules ≡ c.rules → (view s).marks ≡ c.marks → counted (view s') ≡ after c q r m'.checkpoints
 counts_follow s s' m m' q r c e rules marks =

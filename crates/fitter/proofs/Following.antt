@@ -20,7 +20,7 @@ use Rattle.search_theory.specs.Ledgers.History.{start, call}
 use Rattle.search_theory.specs.Requests.{World, Answered, whole, answer}
 use Rattle.search_theory.specs.Solving.{Solving, opened, open_call, decided}
 use Rattle.fitter.specs.declared.store.Memory.{Memory}
-use Rattle.session.specs.Promised.{Promised-whole}
+use Rattle.session.specs.Promised.{PromisedWhole}
 use Rattle.fitter.specs.Sessions.{world, Session, Asked}
 
 abbrev Reached : Ledger Octagon AnyRule → World Octagon AnyRule → Type 0
@@ -52,7 +52,7 @@ starts h m (Ok s) p = starts_if h s m (home_check h) refl p
 starts h m (Err f) p = tt
 
 -- what the call promises on every history, it promises on the session's own
-pub asked : (o : Option (Solver Octagon)) (s s' : Solver Octagon) (m m' : Memory) (q : Request AnyRule) (a : Result Reply SolverFault) → o ≡ Some s → Session o m → answered_by a (world s' m') m'.regions ≡ answer octagon_model any_model (world s m) m.regions q → Promised-whole octagon_model any_model (world s m) q (answered_by a (world s' m') m'.regions) → Asked o m q (Some a) (Some s') m'
+pub asked : (o : Option (Solver Octagon)) (s s' : Solver Octagon) (m m' : Memory) (q : Request AnyRule) (a : Result Reply SolverFault) → o ≡ Some s → Session o m → answered_by a (world s' m') m'.regions ≡ answer octagon_model any_model (world s m) m.regions q → PromisedWhole octagon_model any_model (world s m) q (answered_by a (world s' m') m'.regions) → Asked o m q (Some a) (Some s') m'
 asked o s s' m m' q a e t answers promise =
     subst
     (λ x. Session x m → Asked x m q (Some a) (Some s') m')

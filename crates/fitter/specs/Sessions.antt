@@ -6,7 +6,7 @@ use Rattle.octagon.specs.declared.matrix.Octagon.{Octagon}
 use Rattle.octagon.specs.Octagons.{octagon_model}
 use Rattle.rules.specs.Any.{AnyRule, any_model}
 use Rattle.search.specs.declared.solver.Solver.{Solver}
-use Rattle.search.specs.Promised.{called-as}
+use Rattle.search.specs.Promised.{called_as}
 use Rattle.search.specs.Views.{view, world_of, answered_by}
 use Rattle.search_theory.specs.declared.reply.Reply.{Reply}
 use Rattle.search_theory.specs.declared.request.Request.{Request}
@@ -29,7 +29,7 @@ Session s m = ∥ LedTo s m ∥₁
 
 -- a call that was lent the whole memory
 abbrev pub here : Ledger Octagon AnyRule → Solver Octagon → Memory → Request AnyRule → Result Reply SolverFault → Solver Octagon → Memory → Called Octagon AnyRule
-here l s m q r s' m' = called-as octagon_model any_model l (world s m) [] [] [] q (answered_by r (world s' m') m'.regions)
+here l s m q r s' m' = called_as octagon_model any_model l (world s m) [] [] [] q (answered_by r (world s' m') m'.regions)
 
 -- everything that is promised after a call, on the history that the session is
 abbrev pub KeptHere : Solver Octagon → Memory → Request AnyRule → Result Reply SolverFault → Solver Octagon → Memory → Type 0

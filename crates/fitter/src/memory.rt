@@ -5,7 +5,7 @@ ghost use Rattle.rules.specs.Any.{any_model};
 ghost use Rattle.search.specs.Views.{view_if_any, answered_by};
 ghost use Rattle.search_theory.specs.Requests.{answer};
 ghost use Rattle.search_theory.specs.Solving.{open_call};
-ghost use Rattle.session.specs.Promised.{Promised-whole};
+ghost use Rattle.session.specs.Promised.{PromisedWhole};
 ghost use Rattle.fitter.specs.Sessions.{world, Session};
 
 use super::store::Memory;
@@ -59,7 +59,7 @@ impl Memory {
         request: Request<AnyRule>,
     ) -> Result<Reply, SolverFault>
         ensures answers { answered_by result (world solver.new self.new) self.new.regions ≡ answer octagon_model any_model (world solver.old self.old) self.old.regions request }
-        ensures promise { Promised-whole octagon_model any_model (world solver.old self.old) request (answered_by result (world solver.new self.new) self.new.regions) }
+        ensures promise { PromisedWhole octagon_model any_model (world solver.old self.old) request (answered_by result (world solver.new self.new) self.new.regions) }
         ensures session { Session (Some solver.old) self.old → Session (Some solver.new) self.new }
     {
         call(

@@ -40,20 +40,20 @@ pub record Passed (h : Home) (k : ℕ) : Type 0 where
   pub ordered : low_of h k ≤ℤ high_of h k
 
 module _ (h : Home) (ok : Passes h) where
-  abbrev passed-settings : first_fault (settings_grounds h) ≡ Ok tt
-  passed-settings = (next_parts (first_fault (settings_grounds h)) _ ok).0
+  abbrev passed_settings : first_fault (settings_grounds h) ≡ Ok tt
+  passed_settings = (next_parts (first_fault (settings_grounds h)) _ ok).0
 
-  abbrev passed-rest : next (first_fault (flat_map (range_grounds h) (range_with_len 0 h.n))) (first_fault (flat_map (crossed_grounds h) (range_with_len 0 h.n))) ≡ Ok tt
-  passed-rest = (next_parts (first_fault (settings_grounds h)) _ ok).1
+  abbrev passed_rest : next (first_fault (flat_map (range_grounds h) (range_with_len 0 h.n))) (first_fault (flat_map (crossed_grounds h) (range_with_len 0 h.n))) ≡ Ok tt
+  passed_rest = (next_parts (first_fault (settings_grounds h)) _ ok).1
 
   pub passed_n : (1 ≤ h.n) × (h.n ≤ 8)
   passed_n =
-      let e = not-false (ltb 0 h.n && ltb h.n 9) (ground_fails _ _ (Ok tt) passed-settings).0 in
+      let e = not-false (ltb 0 h.n && ltb h.n 9) (ground_fails _ _ (Ok tt) passed_settings).0 in
       let p = and_parts (ltb 0 h.n) (ltb h.n 9) e in (omega (arith, ltb-true 0 h.n p.0), omega (arith, ltb-true h.n 9 p.1))
 
   pub passed_at : (k : ℕ) → k < h.n → Passed h k
   passed_at k l =
-      let ranges = next_parts (first_fault (flat_map (range_grounds h) (range_with_len 0 h.n))) _ passed-rest in
+      let ranges = next_parts (first_fault (flat_map (range_grounds h) (range_with_len 0 h.n))) _ passed_rest in
       let r = ground_fails _ _ _ (each_below (range_grounds h) h.n ranges.0 k l) in
       let c = ground_fails _ _ (Ok tt) (each_below (crossed_grounds h) h.n ranges.1 k l) in
       record {

@@ -29,7 +29,7 @@ use Rattle.octagon.specs.Taking.{OctagonOf, limit_is}
 use Rattle.octagon.specs.Holding.{holds_decides, offered_is, least_is}
 use Rattle.octagon.specs.Made.{made_of, built_of}
 use Rattle.octagon.specs.Facts.{extent_at, halvings_are}
-use Rattle.octagon.specs.Splitting.{lower-cut, upper-cut, widths_are, lower-split, upper-split, lower_is, upper_is, lower_same, upper_same}
+use Rattle.octagon.specs.Splitting.{lower_cut, upper_cut, widths_are, lower_split, upper_split, lower_is, upper_is, lower_same, upper_same}
 
 -- one cut more is one more at the end
 pub cut_by_more : (s : Octagon) (ts : List Cut) (t : Cut) → cut_by octagon_model s (ts ++ (t ∷ [])) ≡ cut_to (cut_by octagon_model s ts) t.p t.q t.c
@@ -77,27 +77,27 @@ module _ (s : Octagon) (h : Home) (ts : List Cut) (ok : Passes h) (made : s ≡ 
           ap (λ j. drop h.n (least_from (at s.limits) [] j ++ replicate (8 - j) (pos 0))) m ∙ drop_at (least_from (at s.limits) [] h.n) (replicate (8 - h.n) (pos 0)) h.n (ap length e ∙ length_least_values (limit h ts) [] h.n)
 
   pub split_defined : SplitInTwo h ts (lower_of s, upper_of s)
-  unfolding lower-split upper-split lower-cut upper-cut
+  unfolding lower_split upper_split lower_cut upper_cut
   split_defined = record {
     whole = λ e. let a = lower_same h ts s O e ∙ made in let b = upper_same h ts s O e ∙ made in λ i. (a i, b i);
     parts = λ e t u c d. let a = lower_at e t c in let b = upper_at e u d in λ i. (a i, b i);
-    cuts = λ e. (lower-split h ts s O e, upper-split h ts s O e, sym (lower_found e), sym (upper_found e));
+    cuts = λ e. (lower_split h ts s O e, upper_split h ts s O e, sym (lower_found e), sym (upper_found e));
   }
     where
       some_same : (a b : Cut) → Some a ≡ Some b → a ≡ b
       some_same a b e = cc
 
-      lower_found : (e : is_open (void h ts) (limit h ts) ≡ true) → Some (lower-split h ts s O e) ≡ cut_of (2 * widest_at (limit h ts)) (2 * widest_at (limit h ts)) (up_to (middle_at (limit h ts) (widest_at (limit h ts))))
-      lower_found e = cut_made (2 * widest_at (limit h ts)) (2 * widest_at (limit h ts)) (up_to (middle_at (limit h ts) (widest_at (limit h ts)))) (up_to (middle_at (limit h ts) (widest_at (limit h ts)))) refl (lower-split h ts s O e).ok
+      lower_found : (e : is_open (void h ts) (limit h ts) ≡ true) → Some (lower_split h ts s O e) ≡ cut_of (2 * widest_at (limit h ts)) (2 * widest_at (limit h ts)) (up_to (middle_at (limit h ts) (widest_at (limit h ts))))
+      lower_found e = cut_made (2 * widest_at (limit h ts)) (2 * widest_at (limit h ts)) (up_to (middle_at (limit h ts) (widest_at (limit h ts)))) (up_to (middle_at (limit h ts) (widest_at (limit h ts)))) refl (lower_split h ts s O e).ok
 
-      upper_found : (e : is_open (void h ts) (limit h ts) ≡ true) → Some (upper-split h ts s O e) ≡ cut_of (2 * widest_at (limit h ts) + 1) (2 * widest_at (limit h ts) + 1) (from_next (middle_at (limit h ts) (widest_at (limit h ts))))
-      upper_found e = cut_made (2 * widest_at (limit h ts) + 1) (2 * widest_at (limit h ts) + 1) (from_next (middle_at (limit h ts) (widest_at (limit h ts)))) (from_next (middle_at (limit h ts) (widest_at (limit h ts)))) refl (upper-split h ts s O e).ok
+      upper_found : (e : is_open (void h ts) (limit h ts) ≡ true) → Some (upper_split h ts s O e) ≡ cut_of (2 * widest_at (limit h ts) + 1) (2 * widest_at (limit h ts) + 1) (from_next (middle_at (limit h ts) (widest_at (limit h ts))))
+      upper_found e = cut_made (2 * widest_at (limit h ts) + 1) (2 * widest_at (limit h ts) + 1) (from_next (middle_at (limit h ts) (widest_at (limit h ts)))) (from_next (middle_at (limit h ts) (widest_at (limit h ts)))) refl (upper_split h ts s O e).ok
 
       lower_at : (e : is_open (void h ts) (limit h ts) ≡ true) (t : Cut) → cut_of (2 * widest_at (limit h ts)) (2 * widest_at (limit h ts)) (up_to (middle_at (limit h ts) (widest_at (limit h ts)))) ≡ Some t → lower_of s ≡ built octagon_model h (ts ++ (t ∷ []))
-      lower_at e t c = lower_is h ts s O e ∙ cut_defined (lower-split h ts s O e) ∙ ap (λ r. built octagon_model h (ts ++ (r ∷ []))) (some_same _ _ (lower_found e ∙ c))
+      lower_at e t c = lower_is h ts s O e ∙ cut_defined (lower_split h ts s O e) ∙ ap (λ r. built octagon_model h (ts ++ (r ∷ []))) (some_same _ _ (lower_found e ∙ c))
 
       upper_at : (e : is_open (void h ts) (limit h ts) ≡ true) (t : Cut) → cut_of (2 * widest_at (limit h ts) + 1) (2 * widest_at (limit h ts) + 1) (from_next (middle_at (limit h ts) (widest_at (limit h ts)))) ≡ Some t → upper_of s ≡ built octagon_model h (ts ++ (t ∷ []))
-      upper_at e t c = upper_is h ts s O e ∙ cut_defined (upper-split h ts s O e) ∙ ap (λ r. built octagon_model h (ts ++ (r ∷ []))) (some_same _ _ (upper_found e ∙ c))
+      upper_at e t c = upper_is h ts s O e ∙ cut_defined (upper_split h ts s O e) ∙ ap (λ r. built octagon_model h (ts ++ (r ∷ []))) (some_same _ _ (upper_found e ∙ c))
 
 pub ranges_are_those_of_limits : RangesAreThoseOfLimits
 ranges_are_those_of_limits h ts ok k = (on, off)

@@ -29,7 +29,7 @@ use Rattle.octagon.specs.Ranges.{width_at, widths, extent_by, is_open, widest_at
 use Rattle.octagon.specs.Taking.{OctagonOf, limit_is, cut_of}
 use Rattle.octagon.specs.Holding.{holds_decides, holds_not, offer_says}
 use Rattle.octagon.specs.Widths.{length_widths, getD_widths, single_says, open_says, even_is, width_is, narrower}
-use Rattle.octagon.specs.Splitting.{Wide, wide, lower_fewer, upper_fewer, meets_lower, lower_met, meets_upper, upper_met, widths_are, open_is, lower-split, upper-split, lower_octagon, upper_octagon}
+use Rattle.octagon.specs.Splitting.{Wide, wide, lower_fewer, upper_fewer, meets_lower, lower_met, meets_upper, upper_met, widths_are, open_is, lower_split, upper_split, lower_octagon, upper_octagon}
 
 -- which extent tells what
 void_not : Void ≢ Lone
@@ -167,17 +167,17 @@ module _ (h : Home) (ts : List Cut) (s : Octagon) (O : OctagonOf h ts s) where
 
   -- each point of an open octagon lies in exactly one part
   module _ (e : is_open (void h ts) (limit h ts) ≡ true) where
-    lower_holds : (x : List ℤ) → Decides (holds_at (lower_of s) x) (Within h (ts ++ (lower-split h ts s O e ∷ [])) x)
-    lower_holds = holds_decides h (ts ++ (lower-split h ts s O e ∷ [])) (lower_of s) (lower_octagon h ts s O e)
+    lower_holds : (x : List ℤ) → Decides (holds_at (lower_of s) x) (Within h (ts ++ (lower_split h ts s O e ∷ [])) x)
+    lower_holds = holds_decides h (ts ++ (lower_split h ts s O e ∷ [])) (lower_of s) (lower_octagon h ts s O e)
 
-    upper_holds : (x : List ℤ) → Decides (holds_at (upper_of s) x) (Within h (ts ++ (upper-split h ts s O e ∷ [])) x)
-    upper_holds = holds_decides h (ts ++ (upper-split h ts s O e ∷ [])) (upper_of s) (upper_octagon h ts s O e)
+    upper_holds : (x : List ℤ) → Decides (holds_at (upper_of s) x) (Within h (ts ++ (upper_split h ts s O e ∷ [])) x)
+    upper_holds = holds_decides h (ts ++ (upper_split h ts s O e ∷ [])) (upper_of s) (upper_octagon h ts s O e)
 
-    lower_not : (x : List ℤ) → (Within h (ts ++ (lower-split h ts s O e ∷ [])) x → ⊥) → holds_at (lower_of s) x ≡ false
-    lower_not = holds_not h (ts ++ (lower-split h ts s O e ∷ [])) (lower_of s) (lower_octagon h ts s O e)
+    lower_not : (x : List ℤ) → (Within h (ts ++ (lower_split h ts s O e ∷ [])) x → ⊥) → holds_at (lower_of s) x ≡ false
+    lower_not = holds_not h (ts ++ (lower_split h ts s O e ∷ [])) (lower_of s) (lower_octagon h ts s O e)
 
-    upper_not : (x : List ℤ) → (Within h (ts ++ (upper-split h ts s O e ∷ [])) x → ⊥) → holds_at (upper_of s) x ≡ false
-    upper_not = holds_not h (ts ++ (upper-split h ts s O e ∷ [])) (upper_of s) (upper_octagon h ts s O e)
+    upper_not : (x : List ℤ) → (Within h (ts ++ (upper_split h ts s O e ∷ [])) x → ⊥) → holds_at (upper_of s) x ≡ false
+    upper_not = holds_not h (ts ++ (upper_split h ts s O e ∷ [])) (upper_of s) (upper_octagon h ts s O e)
 
     abbrev k : ℕ
     k = widest_at (limit h ts)
@@ -192,35 +192,35 @@ module _ (h : Home) (ts : List Cut) (s : Octagon) (O : OctagonOf h ts s) where
     counted x a b c i j l z = ap₂ (λ u v. one_if u + one_if v) i j ∙ z ∙ ap one_if (sym l)
 
     pub split_counts : (x : List ℤ) → one_if (holds_at (lower_of s) x) + one_if (holds_at (upper_of s) x) ≡ one_if (holds_at s x)
-    unfolding lower-split upper-split
+    unfolding lower_split upper_split
     split_counts x = by (cases_Bool (holds_at s x))
       where
         by : (holds_at s x ≡ true) ⊎ (holds_at s x ≡ false) → one_if (holds_at (lower_of s) x) + one_if (holds_at (upper_of s) x) ≡ one_if (holds_at s x)
-        by (inr f) = counted x false false false (lower_not x (λ w. both_ways (holds_at s x) f ((holds_decides h ts s O x).1 (w.0, meets_front x ts (lower-split h ts s O e) w.1)))) (upper_not x (λ w. both_ways (holds_at s x) f ((holds_decides h ts s O x).1 (w.0, meets_front x ts (upper-split h ts s O e) w.1)))) f refl
+        by (inr f) = counted x false false false (lower_not x (λ w. both_ways (holds_at s x) f ((holds_decides h ts s O x).1 (w.0, meets_front x ts (lower_split h ts s O e) w.1)))) (upper_not x (λ w. both_ways (holds_at s x) f ((holds_decides h ts s O x).1 (w.0, meets_front x ts (upper_split h ts s O e) w.1)))) f refl
         by (inl f) =
             let w = (holds_decides h ts s O x).0 f in
             by_lt_z m (value x (2 * k))
             (λ a. counted x false true true
-            (lower_not x (λ u. let c = lower_met h O.passes ts k m W x w.0.0 (meets_last x ts (lower-split h ts s O e) u.1) in omega (arith, ints)))
-            ((upper_holds x).1 (w.0, meets_push x ts (upper-split h ts s O e) w.1 (meets_upper h O.passes ts k m W x (omega (arith, ints)))))
+            (lower_not x (λ u. let c = lower_met h O.passes ts k m W x w.0.0 (meets_last x ts (lower_split h ts s O e) u.1) in omega (arith, ints)))
+            ((upper_holds x).1 (w.0, meets_push x ts (upper_split h ts s O e) w.1 (meets_upper h O.passes ts k m W x (omega (arith, ints)))))
             f refl)
             (λ a. counted x true false true
-            ((lower_holds x).1 (w.0, meets_push x ts (lower-split h ts s O e) w.1 (meets_lower h O.passes ts k m W x a)))
-            (upper_not x (λ u. let c = upper_met h O.passes ts k m W x w.0.0 (meets_last x ts (upper-split h ts s O e) u.1) in omega (arith, ints)))
+            ((lower_holds x).1 (w.0, meets_push x ts (lower_split h ts s O e) w.1 (meets_lower h O.passes ts k m W x a)))
+            (upper_not x (λ u. let c = upper_met h O.passes ts k m W x w.0.0 (meets_last x ts (upper_split h ts s O e) u.1) in omega (arith, ints)))
             f refl)
 
     pub lower_lowers : halvings_of (widths (at (lower_of s).limits)) < halvings_of (widths (at s.limits))
-    unfolding lower-split
+    unfolding lower_split
     lower_lowers =
-        let a : halvings_of (widths (at (lower_of s).limits)) ≡ halvings_of (widths (limit h (ts ++ (lower-split h ts s O e ∷ [])))) = ap halvings_of (widths_are h (ts ++ (lower-split h ts s O e ∷ [])) (lower_of s) (lower_octagon h ts s O e)) in
+        let a : halvings_of (widths (at (lower_of s).limits)) ≡ halvings_of (widths (limit h (ts ++ (lower_split h ts s O e ∷ [])))) = ap halvings_of (widths_are h (ts ++ (lower_split h ts s O e ∷ [])) (lower_of s) (lower_octagon h ts s O e)) in
         let b = halvings_are in
         let c = lower_fewer h O.passes ts k m W in
         omega arith
 
     pub upper_lowers : halvings_of (widths (at (upper_of s).limits)) < halvings_of (widths (at s.limits))
-    unfolding upper-split
+    unfolding upper_split
     upper_lowers =
-        let a : halvings_of (widths (at (upper_of s).limits)) ≡ halvings_of (widths (limit h (ts ++ (upper-split h ts s O e ∷ [])))) = ap halvings_of (widths_are h (ts ++ (upper-split h ts s O e ∷ [])) (upper_of s) (upper_octagon h ts s O e)) in
+        let a : halvings_of (widths (at (upper_of s).limits)) ≡ halvings_of (widths (limit h (ts ++ (upper_split h ts s O e ∷ [])))) = ap halvings_of (widths_are h (ts ++ (upper_split h ts s O e ∷ [])) (upper_of s) (upper_octagon h ts s O e)) in
         let b = halvings_are in
         let c = upper_fewer h O.passes ts k m W in
         omega arith

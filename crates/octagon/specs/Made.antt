@@ -12,17 +12,17 @@ use Rattle.octagon.specs.declared.matrix.Octagon.{Octagon}
 use Rattle.octagon.specs.Octagons.{started, cut_to, lower_of, upper_of, octagon_model}
 use Rattle.octagon.specs.Ranges.{is_open}
 use Rattle.octagon.specs.Taking.{OctagonOf, start_of, cut_of}
-use Rattle.octagon.specs.Splitting.{lower-split, upper-split, lower_octagon, upper_octagon, lower_same, upper_same}
+use Rattle.octagon.specs.Splitting.{lower_split, upper_split, lower_octagon, upper_octagon, lower_same, upper_same}
 
 abbrev pub OfSome : Octagon → Type 0
 OfSome s = (h : Home) × (ts : List Cut) × OctagonOf h ts s
 
 lower_made : (h : Home) (ts : List Cut) (s : Octagon) (O : OctagonOf h ts s) → (is_open (void h ts) (limit h ts) ≡ true) ⊎ (is_open (void h ts) (limit h ts) ≡ false) → OfSome (lower_of s)
-lower_made h ts s O (inl e) = (h, ts ++ (lower-split h ts s O e ∷ []), lower_octagon h ts s O e)
+lower_made h ts s O (inl e) = (h, ts ++ (lower_split h ts s O e ∷ []), lower_octagon h ts s O e)
 lower_made h ts s O (inr e) = (h, ts, subst (OctagonOf h ts) (sym (lower_same h ts s O e)) O)
 
 upper_made : (h : Home) (ts : List Cut) (s : Octagon) (O : OctagonOf h ts s) → (is_open (void h ts) (limit h ts) ≡ true) ⊎ (is_open (void h ts) (limit h ts) ≡ false) → OfSome (upper_of s)
-upper_made h ts s O (inl e) = (h, ts ++ (upper-split h ts s O e ∷ []), upper_octagon h ts s O e)
+upper_made h ts s O (inl e) = (h, ts ++ (upper_split h ts s O e ∷ []), upper_octagon h ts s O e)
 upper_made h ts s O (inr e) = (h, ts, subst (OctagonOf h ts) (sym (upper_same h ts s O e)) O)
 
 pub made_of : {s : Octagon} → Made octagon_model s → OfSome s

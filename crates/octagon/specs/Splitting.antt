@@ -90,11 +90,11 @@ module _ (h : Home) (ok : Passes h) (ts : List Cut) where
     pub upper_bound : Small 2000000 (from_next m)
     upper_bound = let a = W.above_low in let b = W.below_high in let c = W.small_low.0 in let d = W.small_high.1 in (omega (arith, ints), omega (arith, ints))
 
-    unfoldable pub lower-cut : Cut
-    lower-cut = record { p = 2 * k; q = 2 * k; c = up_to m; ok = own_valid (2 * k) (up_to m) (let r = W.room in omega arith) lower_bound }
+    unfoldable pub lower_cut : Cut
+    lower_cut = record { p = 2 * k; q = 2 * k; c = up_to m; ok = own_valid (2 * k) (up_to m) (let r = W.room in omega arith) lower_bound }
 
-    unfoldable pub upper-cut : Cut
-    upper-cut = record { p = 2 * k + 1; q = 2 * k + 1; c = from_next m; ok = own_valid (2 * k + 1) (from_next m) (let r = W.room in omega arith) upper_bound }
+    unfoldable pub upper_cut : Cut
+    upper_cut = record { p = 2 * k + 1; q = 2 * k + 1; c = from_next m; ok = own_valid (2 * k + 1) (from_next m) (let r = W.room in omega arith) upper_bound }
 
     -- halving leaves at most half the width
     halved_nat : (a b : ℕ) (l u x y : ℤ) → pos a ≡ (y -ℤ x) → pos b ≡ (u -ℤ l) → (y -ℤ x) ≤ℤ (m -ℤ l) → (m +ℤ m) ≤ℤ (l +ℤ u) → 2 * a ≤ b
@@ -124,37 +124,37 @@ module _ (h : Home) (ok : Passes h) (ts : List Cut) where
         by (inl v) = let e = void_width h ok (ts ++ (t ∷ [])) v k in omega arith
         by (inr v) = s v
 
-    pub lower_fewer : halvings_of (widths (limit h (ts ++ (lower-cut ∷ [])))) < halvings_of (widths (limit h ts))
-    unfolding lower-cut
-    lower_fewer = fewer lower-cut (λ v.
-        let L' = limit h (ts ++ (lower-cut ∷ [])) in
-        let o = (one_cut_at_a_time h ts lower-cut).obeyed v (let b = W.on in omega arith) (let b = W.on in omega arith) in
-        let i = (inwards h ok ts lower-cut v k W.on).0 in
-        halved_nat (width_at L' k) (width_at (limit h ts) k) (low_at (limit h ts) k) (high_at (limit h ts) k) (low_at L' k) (high_at L' k) (width_is h ok (ts ++ (lower-cut ∷ [])) k) (width_is h ok ts k) (let j = half_is (L' (2 * k) (2 * k)) in omega (arith, ints)) W.middle_low)
+    pub lower_fewer : halvings_of (widths (limit h (ts ++ (lower_cut ∷ [])))) < halvings_of (widths (limit h ts))
+    unfolding lower_cut
+    lower_fewer = fewer lower_cut (λ v.
+        let L' = limit h (ts ++ (lower_cut ∷ [])) in
+        let o = (one_cut_at_a_time h ts lower_cut).obeyed v (let b = W.on in omega arith) (let b = W.on in omega arith) in
+        let i = (inwards h ok ts lower_cut v k W.on).0 in
+        halved_nat (width_at L' k) (width_at (limit h ts) k) (low_at (limit h ts) k) (high_at (limit h ts) k) (low_at L' k) (high_at L' k) (width_is h ok (ts ++ (lower_cut ∷ [])) k) (width_is h ok ts k) (let j = half_is (L' (2 * k) (2 * k)) in omega (arith, ints)) W.middle_low)
 
-    pub upper_fewer : halvings_of (widths (limit h (ts ++ (upper-cut ∷ [])))) < halvings_of (widths (limit h ts))
-    unfolding upper-cut
-    upper_fewer = fewer upper-cut (λ v.
-        let L' = limit h (ts ++ (upper-cut ∷ [])) in
-        let o = (one_cut_at_a_time h ts upper-cut).obeyed v (let b = W.on in omega arith) (let b = W.on in omega arith) in
-        let i = (inwards h ok ts upper-cut v k W.on).1 in
-        halved_nat' (width_at L' k) (width_at (limit h ts) k) (low_at (limit h ts) k) (high_at (limit h ts) k) (low_at L' k) (high_at L' k) (width_is h ok (ts ++ (upper-cut ∷ [])) k) (width_is h ok ts k) (let j = half_is (L' (2 * k + 1) (2 * k + 1)) in omega (arith, ints)) W.middle_high)
+    pub upper_fewer : halvings_of (widths (limit h (ts ++ (upper_cut ∷ [])))) < halvings_of (widths (limit h ts))
+    unfolding upper_cut
+    upper_fewer = fewer upper_cut (λ v.
+        let L' = limit h (ts ++ (upper_cut ∷ [])) in
+        let o = (one_cut_at_a_time h ts upper_cut).obeyed v (let b = W.on in omega arith) (let b = W.on in omega arith) in
+        let i = (inwards h ok ts upper_cut v k W.on).1 in
+        halved_nat' (width_at L' k) (width_at (limit h ts) k) (low_at (limit h ts) k) (high_at (limit h ts) k) (low_at L' k) (high_at L' k) (width_is h ok (ts ++ (upper_cut ∷ [])) k) (width_is h ok ts k) (let j = half_is (L' (2 * k + 1) (2 * k + 1)) in omega (arith, ints)) W.middle_high)
 
     -- which points meet the two cuts
-    pub meets_lower : (x : List ℤ) → value x (2 * k) ≤ℤ m → Meets x lower-cut
-    unfolding lower-cut
+    pub meets_lower : (x : List ℤ) → value x (2 * k) ≤ℤ m → Meets x lower_cut
+    unfolding lower_cut
     meets_lower x e a b = omega (arith, ints)
 
-    pub lower_met : (x : List ℤ) → length x ≡ h.n → Meets x lower-cut → value x (2 * k) ≤ℤ m
-    unfolding lower-cut
+    pub lower_met : (x : List ℤ) → length x ≡ h.n → Meets x lower_cut → value x (2 * k) ≤ℤ m
+    unfolding lower_cut
     lower_met x l e = let b = W.on in let r = e (omega arith) (omega arith) in omega (arith, ints)
 
-    pub meets_upper : (x : List ℤ) → (m +ℤ pos 1) ≤ℤ value x (2 * k) → Meets x upper-cut
-    unfolding upper-cut
+    pub meets_upper : (x : List ℤ) → (m +ℤ pos 1) ≤ℤ value x (2 * k) → Meets x upper_cut
+    unfolding upper_cut
     meets_upper x e a b = let f = value_even k x in let g = value_odd k x in omega (arith, ints)
 
-    pub upper_met : (x : List ℤ) → length x ≡ h.n → Meets x upper-cut → (m +ℤ pos 1) ≤ℤ value x (2 * k)
-    unfolding upper-cut
+    pub upper_met : (x : List ℤ) → length x ≡ h.n → Meets x upper_cut → (m +ℤ pos 1) ≤ℤ value x (2 * k)
+    unfolding upper_cut
     upper_met x l e = let b = W.on in let r = e (omega arith) (omega arith) in let f = value_even k x in let g = value_odd k x in omega (arith, ints)
 
 -- ---- the parts of an octagon
@@ -172,34 +172,34 @@ module _ (h : Home) (ts : List Cut) (s : Octagon) (O : OctagonOf h ts s) where
   middle_same k b = ap₂ (λ x y. half (neg_ℤ (half x) +ℤ half y)) (O.entries (2 * k + 1) (2 * k + 1) (omega arith) (omega arith)) (O.entries (2 * k) (2 * k) (omega arith) (omega arith))
 
   module _ (e : is_open (void h ts) (limit h ts) ≡ true) where
-    abbrev wide-k : ℕ
-    wide-k = widest_at (limit h ts)
+    abbrev wide_k : ℕ
+    wide_k = widest_at (limit h ts)
 
-    abbrev wide-m : ℤ
-    wide-m = middle_at (limit h ts) (widest_at (limit h ts))
+    abbrev wide_m : ℤ
+    wide_m = middle_at (limit h ts) (widest_at (limit h ts))
 
-    abbrev W : Wide h O.passes ts wide-k wide-m
+    abbrev W : Wide h O.passes ts wide_k wide_m
     W = wide h O.passes ts e
 
-    unfoldable pub lower-split : Cut
-    lower-split = lower-cut h O.passes ts wide-k wide-m W
+    unfoldable pub lower_split : Cut
+    lower_split = lower_cut h O.passes ts wide_k wide_m W
 
-    unfoldable pub upper-split : Cut
-    upper-split = upper-cut h O.passes ts wide-k wide-m W
+    unfoldable pub upper_split : Cut
+    upper_split = upper_cut h O.passes ts wide_k wide_m W
 
-    pub lower_is : lower_of s ≡ cut_to s lower-split.p lower-split.q lower-split.c
-    unfolding lower-split lower-cut
-    lower_is = cond-true _ _ s (open_is ∙ e) ∙ ap (λ j. cut_to s (2 * j) (2 * j) (up_to (middle_at (at s.limits) j))) widest_same ∙ ap (λ z. cut_to s (2 * wide-k) (2 * wide-k) (up_to z)) (middle_same wide-k W.room)
+    pub lower_is : lower_of s ≡ cut_to s lower_split.p lower_split.q lower_split.c
+    unfolding lower_split lower_cut
+    lower_is = cond-true _ _ s (open_is ∙ e) ∙ ap (λ j. cut_to s (2 * j) (2 * j) (up_to (middle_at (at s.limits) j))) widest_same ∙ ap (λ z. cut_to s (2 * wide_k) (2 * wide_k) (up_to z)) (middle_same wide_k W.room)
 
-    pub upper_is : upper_of s ≡ cut_to s upper-split.p upper-split.q upper-split.c
-    unfolding upper-split upper-cut
-    upper_is = cond-true _ _ s (open_is ∙ e) ∙ ap (λ j. cut_to s (2 * j + 1) (2 * j + 1) (from_next (middle_at (at s.limits) j))) widest_same ∙ ap (λ z. cut_to s (2 * wide-k + 1) (2 * wide-k + 1) (from_next z)) (middle_same wide-k W.room)
+    pub upper_is : upper_of s ≡ cut_to s upper_split.p upper_split.q upper_split.c
+    unfolding upper_split upper_cut
+    upper_is = cond-true _ _ s (open_is ∙ e) ∙ ap (λ j. cut_to s (2 * j + 1) (2 * j + 1) (from_next (middle_at (at s.limits) j))) widest_same ∙ ap (λ z. cut_to s (2 * wide_k + 1) (2 * wide_k + 1) (from_next z)) (middle_same wide_k W.room)
 
-    pub lower_octagon : OctagonOf h (ts ++ (lower-split ∷ [])) (lower_of s)
-    lower_octagon = subst (OctagonOf h (ts ++ (lower-split ∷ []))) (sym lower_is) (cut_of h ts s O lower-split)
+    pub lower_octagon : OctagonOf h (ts ++ (lower_split ∷ [])) (lower_of s)
+    lower_octagon = subst (OctagonOf h (ts ++ (lower_split ∷ []))) (sym lower_is) (cut_of h ts s O lower_split)
 
-    pub upper_octagon : OctagonOf h (ts ++ (upper-split ∷ [])) (upper_of s)
-    upper_octagon = subst (OctagonOf h (ts ++ (upper-split ∷ []))) (sym upper_is) (cut_of h ts s O upper-split)
+    pub upper_octagon : OctagonOf h (ts ++ (upper_split ∷ [])) (upper_of s)
+    upper_octagon = subst (OctagonOf h (ts ++ (upper_split ∷ []))) (sym upper_is) (cut_of h ts s O upper_split)
 
   pub lower_same : is_open (void h ts) (limit h ts) ≡ false → lower_of s ≡ s
   lower_same e = cond-false _ _ s (open_is ∙ e)

@@ -23,8 +23,8 @@ use Rattle.search_theory.specs.Standing.{standing_cuts}
 use Rattle.solving.proofs.Calls.{solves_truly}
 use Rattle.solving.specs.Solving.{Solvable, TrueOf, solved}
 use Rattle.offsets.proofs.Halvings.{enough}
-use Rattle.offsets.specs.Entry.{copies, no_point, room_in, memory, frames-of, report-frames, answer-frames, problem-frames, opened-frames, entry-frames}
-use Rattle.offsets.specs.Truth.{Told, Tells-truly}
+use Rattle.offsets.specs.Entry.{copies, no_point, room_in, memory, frames_of, report_frames, answer_frames, problem_frames, opened_frames, entry_frames}
+use Rattle.offsets.specs.Truth.{Told, TellsTruly}
 
 length_copies : {A : Type 0} (n : ℕ) (x : A) → length (copies n x) ≡ n
 unfolding copies
@@ -48,25 +48,25 @@ module _ (budget size : ℕ) (p : Stated) where
       record {
         report = done.0;
         regions = take done.0.count (solved octagon_model any_model p.home m p.rules budget).out;
-        told = ap (λ o. problem-frames octagon_model o budget (room_in size)) d
-            ∙ ap (λ o. opened-frames octagon_model o p.home p.rules budget (room_in size)) opens
-            ∙ ap (λ r. answer-frames octagon_model r (solved octagon_model any_model p.home m p.rules budget).out) done.1;
+        told = ap (λ o. problem_frames octagon_model o budget (room_in size)) d
+            ∙ ap (λ o. opened_frames octagon_model o p.home p.rules budget (room_in size)) opens
+            ∙ ap (λ r. answer_frames octagon_model r (solved octagon_model any_model p.home m p.rules budget).out) done.1;
         truth = true_of;
         never_full = true_of.room (enough p.home good.0 (standing_cuts any_model p.home.n p.rules));
         few = omega (arith, taken, done.3);
       }
 
 -- a fault's line has 15 bytes, and the lines of a report at most 1,882 a region and 15 for the end
-report_size : (q : Report) (gs : List (Region Octagon)) → lines_size (report-frames octagon_model q gs) ≤ 1882 * length gs + 15
+report_size : (q : Report) (gs : List (Region Octagon)) → lines_size (report_frames octagon_model q gs) ≤ 1882 * length gs + 15
 report_size q gs =
-    let on = size_on (flat_map (frames-of octagon_model) gs) (end_frame q.outcome q.found q.steps ∷ []) in
+    let on = size_on (flat_map (frames_of octagon_model) gs) (end_frame q.outcome q.found q.steps ∷ []) in
     let regions = regions_bound (λ (g : Region Octagon). read octagon_model g.shape) (λ g. g.point) gs in
     omega (arith, on, regions)
 
-pub frames_fit : (text : List ℕ) (budget size : ℕ) → 1897 ≤ size → lines_size (entry-frames octagon_model text budget size) ≤ size
+pub frames_fit : (text : List ℕ) (budget size : ℕ) → 1897 ≤ size → lines_size (entry_frames octagon_model text budget size) ≤ size
 frames_fit text budget size big = by (read_text text) refl
   where
-    by : (o : Result Stated Refusal) → read_text text ≡ o → lines_size (entry-frames octagon_model text budget size) ≤ size
+    by : (o : Result Stated Refusal) → read_text text ≡ o → lines_size (entry_frames octagon_model text budget size) ≤ size
     by (Ok p) e =
         let t = told_of budget size p text e in
         let told = ap lines_size t.told in
@@ -74,5 +74,5 @@ frames_fit text budget size big = by (read_text text) refl
         let few = t.few in
         omega (arith, told, most, few)
     by (Err r) e =
-        let told = ap (λ o. lines_size (problem-frames octagon_model o budget (room_in size))) e in
+        let told = ap (λ o. lines_size (problem_frames octagon_model o budget (room_in size))) e in
         omega (arith, told)

@@ -7,11 +7,11 @@ use Rattle.rules.specs.Any.{AnyRule}
 use Rattle.search.specs.declared.solver.Solver.{Solver}
 use Rattle.search.specs.Views.{world_of}
 use Rattle.offsets.specs.Entry.{copies}
-use Rattle.offsets.specs.Searching.{answered-in}
+use Rattle.offsets.specs.Searching.{answered_in}
 
 module _ (s : Solver Octagon) (budget : ℕ) where
   abbrev pub in_memory : AnyRule → Octagon → Point → ℕ → List AnyRule → List (List ℕ)
-  in_memory f o x room rs = answered-in octagon_model (world_of s (copies 32 f) (copies 4 (record { shape = o; rules = 0 })) (copies 169 o)) (take room (copies 16 (record { shape = o; point = x }))) rs budget
+  in_memory f o x room rs = answered_in octagon_model (world_of s (copies 32 f) (copies 4 (record { shape = o; rules = 0 })) (copies 169 o)) (take room (copies 16 (record { shape = o; point = x }))) rs budget
 
   pub same_memory : (f f' : AnyRule) (o o' : Octagon) (x x' : Point) (room room' : ℕ) (rs rs' : List AnyRule) → f ≡ f' → o ≡ o' → x ≡ x' → room ≡ room' → rs ≡ rs' → in_memory f o x room rs ≡ in_memory f' o' x' room' rs'
   same_memory f f' o o' x x' room room' rs rs' a b c d e =

@@ -39,35 +39,35 @@ module _ {S : Type 0} (M : ShapeModel S) where
   memory s room = record { rules = copies 32 filler; checkpoints = copies 4 (record { shape = s; rules = 0 }); stack = copies 169 s; out = take room (copies 16 (record { shape = s; point = no_point })) }
 
   -- a region's lines come from its limits and its point alone
-  abbrev pub frames-of : Region S → List (List ℕ)
-  frames-of g = region_frames (read M g.shape) g.point
+  abbrev pub frames_of : Region S → List (List ℕ)
+  frames_of g = region_frames (read M g.shape) g.point
 
   -- the regions that were handed out, then the end
-  abbrev pub report-frames : Report → List (Region S) → List (List ℕ)
-  report-frames p gs = flat_map frames-of gs ++ end_frame p.outcome p.found p.steps ∷ []
+  abbrev pub report_frames : Report → List (Region S) → List (List ℕ)
+  report_frames p gs = flat_map frames_of gs ++ end_frame p.outcome p.found p.steps ∷ []
 
   -- a run answers a report; anything else would be a fault of the solver's
-  abbrev pub reply-frames : Reply → List (Region S) → List (List ℕ)
-  reply-frames (Ran p) out = report-frames p (take p.count out)
-  reply-frames Accepted out = fault_frame Phase 0 ∷ []
-  reply-frames (LimitIs z) out = fault_frame Phase 0 ∷ []
+  abbrev pub reply_frames : Reply → List (Region S) → List (List ℕ)
+  reply_frames (Ran p) out = report_frames p (take p.count out)
+  reply_frames Accepted out = fault_frame Phase 0 ∷ []
+  reply_frames (LimitIs z) out = fault_frame Phase 0 ∷ []
 
-  abbrev pub answer-frames : Result Reply SolverFault → List (Region S) → List (List ℕ)
-  answer-frames (Ok r) out = reply-frames r out
-  answer-frames (Err f) out = fault_frame f 0 ∷ []
+  abbrev pub answer_frames : Result Reply SolverFault → List (Region S) → List (List ℕ)
+  answer_frames (Ok r) out = reply_frames r out
+  answer_frames (Err f) out = fault_frame f 0 ∷ []
 
   -- the home opens a solver, each rule is stated, the search begins and runs once
-  abbrev pub solved-frames : Home → List AnyRule → ℕ → ℕ → List (List ℕ)
-  solved-frames h rs budget room = let a = solved M any_model h (memory (M.start h) room) rs budget in answer-frames a.reply a.out
+  abbrev pub solved_frames : Home → List AnyRule → ℕ → ℕ → List (List ℕ)
+  solved_frames h rs budget room = let a = solved M any_model h (memory (M.start h) room) rs budget in answer_frames a.reply a.out
 
-  abbrev pub opened-frames : Result (Solving S) SolverFault → Home → List AnyRule → ℕ → ℕ → List (List ℕ)
-  opened-frames (Ok s) h rs budget room = solved-frames h rs budget room
-  opened-frames (Err f) h rs budget room = fault_frame f 1 ∷ []
+  abbrev pub opened_frames : Result (Solving S) SolverFault → Home → List AnyRule → ℕ → ℕ → List (List ℕ)
+  opened_frames (Ok s) h rs budget room = solved_frames h rs budget room
+  opened_frames (Err f) h rs budget room = fault_frame f 1 ∷ []
 
   -- a problem is solved, a refusal is told
-  abbrev pub problem-frames : Result Stated Refusal → ℕ → ℕ → List (List ℕ)
-  problem-frames (Ok p) budget room = opened-frames (open_call M p.home) p.home p.rules budget room
-  problem-frames (Err r) budget room = fault_frame r.fault r.line ∷ []
+  abbrev pub problem_frames : Result Stated Refusal → ℕ → ℕ → List (List ℕ)
+  problem_frames (Ok p) budget room = opened_frames (open_call M p.home) p.home p.rules budget room
+  problem_frames (Err r) budget room = fault_frame r.fault r.line ∷ []
 
-  abbrev pub entry-frames : List ℕ → ℕ → ℕ → List (List ℕ)
-  entry-frames text budget size = problem-frames (read_text text) budget (room_in size)
+  abbrev pub entry_frames : List ℕ → ℕ → ℕ → List (List ℕ)
+  entry_frames text budget size = problem_frames (read_text text) budget (room_in size)

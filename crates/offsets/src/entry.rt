@@ -1,8 +1,8 @@
 // The entry point that C calls: bytes and numbers in, bytes and their count out.
 ghost use Rattle.std.specs.Prelude.{◌≡◌, ◌≤◌, length, Ok};
 ghost use Rattle.octagon.specs.Octagons.{octagon_model};
-ghost use Rattle.offsets.specs.Entry.{entry-frames, problem-frames, opened-frames, room_in};
-ghost use Rattle.offsets.specs.Truth.{entry-count, entry-output, Tells-truly};
+ghost use Rattle.offsets.specs.Entry.{entry_frames, problem_frames, opened_frames, room_in};
+ghost use Rattle.offsets.specs.Truth.{entry_count, entry_output, TellsTruly};
 ghost use Rattle.problem.specs.Problems.{stated_by};
 ghost use Rattle.report_lines.specs.Appending.{lines, put_frames};
 
@@ -12,7 +12,7 @@ use report_lines::refusal::put_refusal;
 use session::call::open;
 
 fn solve_problem(problem: &Problem, budget: u32, output: &mut [u8]) -> usize
-    ensures { lines output.new result ≡ put_frames (lines output.old 0) (problem-frames octagon_model (Ok (stated_by problem.now)) budget (room_in (length output.old))) }
+    ensures { lines output.new result ≡ put_frames (lines output.old 0) (problem_frames octagon_model (Ok (stated_by problem.now)) budget (room_in (length output.old))) }
 {
     match open(&problem.home) {
         Ok(mut solver) => solve_opened(&mut solver, problem, budget, output),
@@ -21,7 +21,7 @@ fn solve_problem(problem: &Problem, budget: u32, output: &mut [u8]) -> usize
 }
 
 fn answer_into(input: &[u8], budget: u32, output: &mut [u8]) -> usize
-    ensures { lines output.new result ≡ put_frames (lines output.old 0) (entry-frames octagon_model input.now budget (length output.old)) }
+    ensures { lines output.new result ≡ put_frames (lines output.old 0) (entry_frames octagon_model input.now budget (length output.old)) }
 {
     match read_problem(input) {
         Ok(problem) => solve_problem(&problem, budget, output),
@@ -33,10 +33,10 @@ fn answer_into(input: &[u8], budget: u32, output: &mut [u8]) -> usize
 // output's front on; 0 and nothing written where the output has fewer than 1,897 bytes.
 #[unsafe(no_mangle)]
 pub extern "C" fn offsets_solve(input: &[u8], budget: u32, output: &mut [u8]) -> usize
-    ensures count { result ≡ entry-count octagon_model input.now budget (length output.old) }
-    ensures writes { output.new ≡ entry-output octagon_model input.now budget output.old }
+    ensures count { result ≡ entry_count octagon_model input.now budget (length output.old) }
+    ensures writes { output.new ≡ entry_output octagon_model input.now budget output.old }
     ensures bound { result ≤ length output.old }
-    ensures truth { Tells-truly octagon_model input.now budget (length output.old) }
+    ensures truth { TellsTruly octagon_model input.now budget (length output.old) }
 {
     if output.len() < 1897 {
         return 0;

@@ -2,7 +2,7 @@
 ghost use Rattle.std.specs.Prelude.{◌≡◌, ◌≤◌, length};
 ghost use Rattle.octagon.specs.Octagons.{octagon_model};
 ghost use Rattle.offsets.specs.Entry.{memory, no_point, room_in};
-ghost use Rattle.offsets.specs.Searching.{answered-in};
+ghost use Rattle.offsets.specs.Searching.{answered_in};
 ghost use Rattle.problem.specs.Problems.{rules_in};
 ghost use Rattle.report_lines.specs.Appending.{lines, put_frames};
 ghost use Rattle.search.specs.Views.{world_of};
@@ -42,7 +42,7 @@ pub fn solve_opened(
     budget: u32,
     output: &mut [u8],
 ) -> usize
-    ensures { lines output.new result ≡ put_frames (lines output.old 0) (let m = memory octagon_model (octagon_model.start problem.now.home) (room_in (length output.old)) in answered-in octagon_model (world_of solver.old m.rules m.checkpoints m.stack) m.out (rules_in problem.now) budget) }
+    ensures { lines output.new result ≡ put_frames (lines output.old 0) (let m = memory octagon_model (octagon_model.start problem.now.home) (room_in (length output.old)) in answered_in octagon_model (world_of solver.old m.rules m.checkpoints m.stack) m.out (rules_in problem.now) budget) }
 {
     let shape = Octagon::start(&problem.home);
     let mut rules = [no_rule(); 32];

@@ -2,7 +2,7 @@
 ghost use Rattle.std.specs.Prelude.{◌≡◌, [], ◌∷◌, take};
 ghost use Rattle.std.specs.List.{flat_map};
 ghost use Rattle.octagon.specs.Octagons.{octagon_model};
-ghost use Rattle.offsets.specs.Entry.{frames-of, report-frames, reply-frames, answer-frames};
+ghost use Rattle.offsets.specs.Entry.{frames_of, report_frames, reply_frames, answer_frames};
 ghost use Rattle.report_lines.specs.Appending.{lines, put_frames};
 ghost use Rattle.search_theory.specs.Regions.{read};
 
@@ -25,14 +25,14 @@ fn reading_of(shape: &Octagon) -> Reading
 }
 
 fn put_one(region: &Region<Octagon>, output: &mut [u8], at: usize) -> usize
-    ensures { lines output.new result ≡ put_frames (lines output.old at) (frames-of octagon_model region.now) }
+    ensures { lines output.new result ≡ put_frames (lines output.old at) (frames_of octagon_model region.now) }
 {
     let reading = reading_of(&region.shape);
     put_region(output, at, &reading, &region.point)
 }
 
 fn put_all(regions: &[Region<Octagon>], output: &mut [u8]) -> usize
-    ensures { lines output.new result ≡ put_frames (lines output.old 0) (flat_map (frames-of octagon_model) regions.now) }
+    ensures { lines output.new result ≡ put_frames (lines output.old 0) (flat_map (frames_of octagon_model) regions.now) }
 {
     let mut at = 0;
     for region in regions {
@@ -42,14 +42,14 @@ fn put_all(regions: &[Region<Octagon>], output: &mut [u8]) -> usize
 }
 
 fn put_report(report: Report, regions: &[Region<Octagon>], output: &mut [u8]) -> usize
-    ensures { lines output.new result ≡ put_frames (lines output.old 0) (report-frames octagon_model report (take report.count regions.now)) }
+    ensures { lines output.new result ≡ put_frames (lines output.old 0) (report_frames octagon_model report (take report.count regions.now)) }
 {
     let at = put_all(front(regions, report.count), output);
     put_end(output, at, report.outcome, report.found, report.steps)
 }
 
 fn put_reply(reply: Reply, regions: &[Region<Octagon>], output: &mut [u8]) -> usize
-    ensures { lines output.new result ≡ put_frames (lines output.old 0) (reply-frames octagon_model reply regions.now) }
+    ensures { lines output.new result ≡ put_frames (lines output.old 0) (reply_frames octagon_model reply regions.now) }
 {
     match reply {
         Reply::Ran(report) => put_report(report, regions, output),
@@ -64,7 +64,7 @@ pub fn put_answer(
     regions: &[Region<Octagon>],
     output: &mut [u8],
 ) -> usize
-    ensures { lines output.new result ≡ put_frames (lines output.old 0) (answer-frames octagon_model answer regions.now) }
+    ensures { lines output.new result ≡ put_frames (lines output.old 0) (answer_frames octagon_model answer regions.now) }
 {
     match answer {
         Ok(reply) => put_reply(reply, regions, output),

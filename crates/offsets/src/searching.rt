@@ -1,14 +1,14 @@
 // The calls of a session that solve a problem: each rule is stated, the search begins and runs once.
 ghost use Rattle.std.specs.Prelude.{◌≡◌, map};
 ghost use Rattle.octagon.specs.Octagons.{octagon_model};
-ghost use Rattle.offsets.specs.Entry.{answer-frames};
-ghost use Rattle.offsets.specs.Searching.{answered-in};
+ghost use Rattle.offsets.specs.Entry.{answer_frames};
+ghost use Rattle.offsets.specs.Searching.{answered_in};
 ghost use Rattle.report_lines.specs.Appending.{lines, put_frames};
 ghost use Rattle.rules.specs.Any.{any_model};
 ghost use Rattle.search.specs.Views.{world_of};
 ghost use Rattle.search_theory.specs.declared.request.Request.TheVariants.{State};
 ghost use Rattle.search_theory.specs.Requests.{answer};
-ghost use Rattle.solving.specs.Solving.{after-calls};
+ghost use Rattle.solving.specs.Solving.{after_calls};
 
 use super::regions::put_answer;
 use octagon::matrix::Octagon;
@@ -42,7 +42,7 @@ fn state_all(
     out: &mut [Region<Octagon>],
     stated: &[AnyRule],
 )
-    ensures world { world_of solver.new rules.new checkpoints.new stack.new ≡ after-calls octagon_model any_model (world_of solver.old rules.old checkpoints.old stack.old) out.old (map State stated.now) }
+    ensures world { world_of solver.new rules.new checkpoints.new stack.new ≡ after_calls octagon_model any_model (world_of solver.old rules.old checkpoints.old stack.old) out.old (map State stated.now) }
     ensures out { out.new ≡ out.old }
 {
     for rule in stated {
@@ -61,7 +61,7 @@ pub fn search_in(
     budget: u32,
     output: &mut [u8],
 ) -> usize
-    ensures { lines output.new result ≡ put_frames (lines output.old 0) (answered-in octagon_model (world_of solver.old rules.old checkpoints.old stack.old) out.old stated.now budget) }
+    ensures { lines output.new result ≡ put_frames (lines output.old 0) (answered_in octagon_model (world_of solver.old rules.old checkpoints.old stack.old) out.old stated.now budget) }
 {
     state_all(solver, rules, checkpoints, stack, out, stated);
     let _ = call::<AnyRule>(solver, rules, checkpoints, stack, out, Request::Begin);

@@ -55,16 +55,16 @@ module _ (g : Reading) where
           let one : frame k ∷ [] ≡ pair_at g a = sym (cond-true (pair_written g (k / 16) (k % 16)) (frame k ∷ []) [] e) ∙ ap (pair_at g) here in
           has_append_left (pair_at g a) (from (a + 1) m) (frame k) (subst (λ fs. Has fs (frame k)) one (has_get_or (frame k ∷ []) 0 [] (omega arith)))
 
-  abbrev Is-told : List ℕ → Type 0
-  Is-told f = (p : ℕ) × (q : ℕ) × Told g p q × (f ≡ pair_frame g p q)
+  abbrev IsTold : List ℕ → Type 0
+  IsTold f = (p : ℕ) × (q : ℕ) × Told g p q × (f ≡ pair_frame g p q)
 
-  one_told : (k : ℕ) (b : Bool) → pair_written g (k / 16) (k % 16) ≡ b → All Is-told (cond b (frame k ∷ []) [])
+  one_told : (k : ℕ) (b : Bool) → pair_written g (k / 16) (k % 16) ≡ b → All IsTold (cond b (frame k ∷ []) [])
   one_told k true e = ((k / 16, k % 16, written_told (k / 16) (k % 16) e, refl), tt)
   one_told k false e = tt
 
-  all_told : (ks : List ℕ) → All Is-told (flat_map (pair_at g) ks)
+  all_told : (ks : List ℕ) → All IsTold (flat_map (pair_at g) ks)
   all_told [] = tt
-  all_told (k ∷ ks) = All-append Is-told (pair_at g k) (flat_map (pair_at g) ks) (one_told k (pair_written g (k / 16) (k % 16)) refl) (all_told ks)
+  all_told (k ∷ ks) = All-append IsTold (pair_at g k) (flat_map (pair_at g) ks) (one_told k (pair_written g (k / 16) (k % 16)) refl) (all_told ks)
 
   -- from place a on each frame ranks at least a
   ranked : (m a : ℕ) → All (λ e. a ≤ rank e) (from a m) × Ascending (from a m)

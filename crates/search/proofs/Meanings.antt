@@ -8,7 +8,7 @@ use Rattle.interface.specs.Homes.{home_check, InHome}
 use Rattle.interface.specs.Grounds.{first_fault}
 use Rattle.interface.specs.Rules.{RuleModel, RuleLaws}
 use Rattle.interface.specs.Shapes.{ShapeModel, ShapeLaws, Made, by_start}
-use Rattle.search_theory.specs.Calls.{state-grounds, stated, state-call, limit-grounds, limit-call}
+use Rattle.search_theory.specs.Calls.{state_grounds, stated, state_call, limit_grounds, limit_call}
 use Rattle.search_theory.specs.RegionLaws.{Narrowed}
 use Rattle.search_theory.specs.Solving.{Solving, Left, left, refused, decided, opened, open_call}
 use Rattle.search_theory.proofs.Cases.{err≢ok}
@@ -33,17 +33,17 @@ module _ {S R : Type 0} {M : ShapeModel S} {K : RuleModel R} (L : ShapeLaws M) (
   narrows_after m (Err f) e = absurd (err≢ok e)
   narrows_after m (Ok u) e = narrowed_cut L J s.shape m (K.standing (M.n s.shape) r) (λ t is x met h. J.standing_met (M.n s.shape) r t is x ((held_within L s.shape m x h).0 ∙ read_n M s.shape) met)
 
-  pub state_narrows : StateNarrows M K s r (state-call M K s rules r)
-  state_narrows m = narrows_after m (first_fault (state-grounds M K s rules r))
+  pub state_narrows : StateNarrows M K s r (state_call M K s rules r)
+  state_narrows m = narrows_after m (first_fault (state_grounds M K s rules r))
 
 module _ {S : Type 0} {M : ShapeModel S} (L : ShapeLaws M) (s : Solving S) (p q : ℕ) where
-  pub limit_bounds : LimitBounds M s p q (limit-call M s p q)
-  limit_bounds made m = by (first_fault (limit-grounds M s p q)) refl
+  pub limit_bounds : LimitBounds M s p q (limit_call M s p q)
+  limit_bounds made m = by (first_fault (limit_grounds M s p q)) refl
     where
-      by : (d : Result (Unit {0}) SolverFault) → first_fault (limit-grounds M s p q) ≡ d → decided d Err (Ok (M.limit s.shape p q)) ≡ Ok m → Bounds M s.shape p q m
+      by : (d : Result (Unit {0}) SolverFault) → first_fault (limit_grounds M s p q) ≡ d → decided d Err (Ok (M.limit s.shape p q)) ≡ Ok m → Bounds M s.shape p q m
       by (Err f) g e = absurd (err≢ok e)
       by (Ok u) g e =
-          let none = none_hold (limit-grounds M s p q) u g in
+          let none = none_hold (limit_grounds M s p q) u g in
           let on-p = leb-false (2 * M.n s.shape) p none.0 in
           let on-q = leb-false (2 * M.n s.shape) q none.1.0 in
           subst (Bounds M s.shape p q) (ok_same e) (record {

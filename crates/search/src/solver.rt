@@ -1,6 +1,6 @@
 // The solver's state, and the calls that open it, mark and take back, begin and leave a search.
 ghost use Rattle.std.specs.Prelude.{◌≡◌};
-ghost use Rattle.search_theory.specs.Calls.{mark-call, back-call, keep-call, begin-call, leave-call};
+ghost use Rattle.search_theory.specs.Calls.{mark_call, back_call, keep_call, begin_call, leave_call};
 ghost use Rattle.search_theory.specs.Solving.{left, open_call, is_stating};
 ghost use Rattle.search.specs.Meanings.{Opens};
 ghost use Rattle.search.specs.Views.{view, view_if_any};
@@ -63,7 +63,7 @@ impl<S: Shape> Solver<S> {
 
     // Puts a checkpoint of the shape and the count of rules after the others, of which there are at most 4.
     pub fn mark(&mut self, checkpoints: &mut [Checkpoint<S>]) -> Result<(), SolverFault>
-        ensures { left result (view self.new) checkpoints.new ≡ mark-call (view self.old) checkpoints.old }
+        ensures { left result (view self.new) checkpoints.new ≡ mark_call (view self.old) checkpoints.old }
     {
         if !stating(self.phase) {
             return Err(SolverFault::Phase);
@@ -84,7 +84,7 @@ impl<S: Shape> Solver<S> {
 
     // Drops the last checkpoint and stays as it is.
     pub fn keep(&mut self) -> Result<(), SolverFault>
-        ensures { left result (view self.new) tt ≡ keep-call (view self.old) }
+        ensures { left result (view self.new) tt ≡ keep_call (view self.old) }
     {
         if !stating(self.phase) {
             return Err(SolverFault::Phase);
@@ -98,7 +98,7 @@ impl<S: Shape> Solver<S> {
 
     // Restores the last checkpoint and drops it.
     pub fn back(&mut self, checkpoints: &[Checkpoint<S>]) -> Result<(), SolverFault>
-        ensures { left result (view self.new) tt ≡ back-call (view self.old) checkpoints.now }
+        ensures { left result (view self.new) tt ≡ back_call (view self.old) checkpoints.now }
     {
         if !stating(self.phase) {
             return Err(SolverFault::Phase);
@@ -118,7 +118,7 @@ impl<S: Shape> Solver<S> {
 
     // Starts a search: the shape alone waits, and nothing was handed out yet.
     pub fn begin(&mut self, stack: &mut [S]) -> Result<(), SolverFault>
-        ensures { left result (view self.new) stack.new ≡ begin-call (view self.old) stack.old }
+        ensures { left result (view self.new) stack.new ≡ begin_call (view self.old) stack.old }
     {
         if !stating(self.phase) {
             return Err(SolverFault::Phase);
@@ -135,7 +135,7 @@ impl<S: Shape> Solver<S> {
 
     // Ends a search: what waits is forgotten.
     pub fn leave(&mut self) -> Result<(), SolverFault>
-        ensures { left result (view self.new) tt ≡ leave-call (view self.old) }
+        ensures { left result (view self.new) tt ≡ leave_call (view self.old) }
     {
         if stating(self.phase) {
             return Err(SolverFault::Phase);

@@ -1,6 +1,6 @@
 // A run step by step, on what waits in the stack slice and what was put in the out slice.
 ghost use Rattle.std.specs.Prelude.{◌≡◌, ◌<◌, ◌≤◌, length, Ok, Err};
-ghost use Rattle.search_theory.specs.Runs.{step, ended, run-from};
+ghost use Rattle.search_theory.specs.Runs.{step, ended, run_from};
 ghost use Rattle.search.specs.Works.{work_of, stepped, turned};
 
 use super::classify::classify;
@@ -90,7 +90,7 @@ pub(crate) fn run_on<S: Shape, R: Rule>(
     budget: u32,
 ) -> (Outcome, u32)
     requires { progress.old.waiting ≤ length stack.old }
-    ensures { ended result.0 result.1 (work_of progress.new stack.new out.new) ≡ run-from S.Shape.model R.Rule.model rules.now budget 0 (work_of progress.old stack.old out.old) }
+    ensures { ended result.0 result.1 (work_of progress.new stack.new out.new) ≡ run_from S.Shape.model R.Rule.model rules.now budget 0 (work_of progress.old stack.old out.old) }
 {
     let mut steps = 0u32;
     'turns: loop {

@@ -11,7 +11,7 @@ use Rattle.interface.specs.Readings.{Within, SumsOf}
 use Rattle.interface.specs.Rules.{RuleModel, RuleLaws}
 use Rattle.interface.specs.Shapes.{ShapeModel, ShapeLaws, Made}
 use Rattle.search_theory.specs.declared.fate.Fate.TheVariants.{Dropped}
-use Rattle.search_theory.specs.RegionLaws.{True-fate, Classified}
+use Rattle.search_theory.specs.RegionLaws.{TrueFate, Classified}
 use Rattle.search_theory.specs.Regions.{read, is_void, both, fate_by, judged, classify}
 use Rattle.search_theory.specs.Standing.{MeetsRules}
 use Rattle.search_theory.proofs.Cases.{all≢nothing, all≢unknown, nothing≢all, nothing≢unknown, unknown≢all}
@@ -50,13 +50,13 @@ module _ {R : Type 0} {K : RuleModel R} (J : RuleLaws K) where
   judged_known (r ∷ rs) g x h e = ⊎_elim (J.known_on_one r g x h) (judged_known rs g x h) (both_unknown (K.judge r g) (judged K rs g) e)
 
 module _ {S R : Type 0} {M : ShapeModel S} {K : RuleModel R} (L : ShapeLaws M) (J : RuleLaws K) (rs : List R) (s : S) (m : Made M s) where
-  true_fate_by : (v : Verdict) → judged K rs (read M s) ≡ v → (o : Option Point) → M.offer s ≡ o → (M.extent s ≡ Lone) ⊎ (M.extent s ≡ Open) → True-fate M K rs s (fate_by v o)
+  true_fate_by : (v : Verdict) → judged K rs (read M s) ≡ v → (o : Option Point) → M.offer s ≡ o → (M.extent s ≡ Lone) ⊎ (M.extent s ≡ Open) → TrueFate M K rs s (fate_by v o)
   true_fate_by Nothing e o f ext = λ x h met. judged_nothing J rs (read M s) e x (held_within L s m x h) (subst (λ n. MeetsRules K n rs x) (sym (read_n M s)) met)
   true_fate_by All e (Some p) f ext = (λ x h. subst (λ n. MeetsRules K n rs x) (read_n M s) (judged_all J rs (read M s) e x (held_within L s m x h)), L.offer_holds s m p f)
   true_fate_by All e None f ext = ⊎_elim (λ o. absurd (both_ways (is_some (M.offer s)) (ap is_some f) (L.lone_offers s m o))) (λ o. o) ext
   true_fate_by Unknown e o f ext = ⊎_elim (λ l. let p = L.lone_holds s m l in absurd (judged_known J rs (read M s) p.0 (lone_sums L s m l p.0 p.1) e)) (λ o. o) ext
 
-  true_fate : (e : Extent) → M.extent s ≡ e → True-fate M K rs s (cond (is_void e) Dropped (fate_by (judged K rs (read M s)) (M.offer s)))
+  true_fate : (e : Extent) → M.extent s ≡ e → TrueFate M K rs s (cond (is_void e) Dropped (fate_by (judged K rs (read M s)) (M.offer s)))
   true_fate Void e = λ x h met. both_ways _ (L.void_holds s m e x) h
   true_fate Lone e = true_fate_by (judged K rs (read M s)) refl (M.offer s) refl (inl e)
   true_fate Open e = true_fate_by (judged K rs (read M s)) refl (M.offer s) refl (inr e)

@@ -14,11 +14,11 @@ use Rattle.search_theory.specs.declared.reply.Reply.{Reply}
 use Rattle.search_theory.specs.declared.reply.Reply.TheVariants.{Ran, LimitIs}
 use Rattle.search_theory.specs.declared.request.Request.{Request}
 use Rattle.search_theory.specs.declared.request.Request.TheVariants.{State, Mark, Back, Keep, Begin, Run, Leave, Limit}
-use Rattle.search_theory.specs.Calls.{state-grounds, mark-grounds, back-grounds, keep-grounds, begin-grounds, run_grounds, leave-grounds, stated, marked, restored, at_hand, after_run, limit-call}
+use Rattle.search_theory.specs.Calls.{state_grounds, mark_grounds, back_grounds, keep_grounds, begin_grounds, run_grounds, leave_grounds, stated, marked, restored, at_hand, after_run, limit_call}
 use Rattle.search_theory.specs.Ledgers.{Ledger, noted, History, start, call}
 use Rattle.search_theory.specs.Promise.{called}
 use Rattle.search_theory.specs.Requests.{World, whole, answered, accepted, replied}
-use Rattle.search_theory.specs.Runs.{run-from}
+use Rattle.search_theory.specs.Runs.{run_from}
 use Rattle.search_theory.specs.Solving.{Solving, Left, left, refused, decided, is_stating, is_searching}
 use Rattle.search_theory.proofs.Grounds.{none_hold, none_after_record}
 use Rattle.search_theory.proofs.Invariant.{Inv, inv_start, inv_stated, inv_marked, inv_restored, inv_kept, inv_begun, inv_left}
@@ -50,34 +50,34 @@ module _ {S R : Type 0} {M : ShapeModel S} {K : RuleModel R} (L : ShapeLaws M) (
   abbrev Still : {A T : Type 0} → (A → Reply) → Request R → (T → List R) → (T → List (Checkpoint S)) → (T → List S) → Left S A T → Type 0
   Still f q rules checkpoints stack a = Inv M K (noted M K l places q (replied f a.reply)) (whole (answered f a (rules a.slices) (checkpoints a.slices) (stack a.slices) []).world rest more deep)
 
-  state_if : (r : R) (g : Result (Unit {0}) SolverFault) → first_fault (state-grounds M K s w.rules r) ≡ g → Still accepted (State r) (λ t. t) (λ t. w.checkpoints) (λ t. w.stack) (decided g (refused s w.rules) (left (Ok tt) (stated M K s r) (set w.rules s.rules r)))
+  state_if : (r : R) (g : Result (Unit {0}) SolverFault) → first_fault (state_grounds M K s w.rules r) ≡ g → Still accepted (State r) (λ t. t) (λ t. w.checkpoints) (λ t. w.stack) (decided g (refused s w.rules) (left (Ok tt) (stated M K s r) (set w.rules s.rules r)))
   state_if r (Err f) e = inv
   state_if r (Ok u) e =
-      let h = none_hold (state-grounds M K s w.rules r) u e in
+      let h = none_hold (state_grounds M K s w.rules r) u e in
       let last = none_after_record (K.check (M.n s.shape) r) _ h.1.1 in
       inv_stated L J l w rest more deep places inv r (stating_if s.phase h.0) (place_left 32 s.rules (length w.rules) h.1.0 last.0)
 
-  mark_if : (g : Result (Unit {0}) SolverFault) → first_fault (mark-grounds s w.checkpoints) ≡ g → Still accepted Mark (λ t. w.rules) (λ t. t) (λ t. w.stack) (decided g (refused s w.checkpoints) (left (Ok tt) (marked s) (set w.checkpoints s.marks (record { shape = s.shape; rules = s.rules }))))
+  mark_if : (g : Result (Unit {0}) SolverFault) → first_fault (mark_grounds s w.checkpoints) ≡ g → Still accepted Mark (λ t. w.rules) (λ t. t) (λ t. w.stack) (decided g (refused s w.checkpoints) (left (Ok tt) (marked s) (set w.checkpoints s.marks (record { shape = s.shape; rules = s.rules }))))
   mark_if (Err f) e = inv
-  mark_if (Ok u) e = let h = none_hold (mark-grounds s w.checkpoints) u e in inv_marked L J l w rest more deep places inv (place_left 4 s.marks (length w.checkpoints) h.1.0 h.1.1.0)
+  mark_if (Ok u) e = let h = none_hold (mark_grounds s w.checkpoints) u e in inv_marked L J l w rest more deep places inv (place_left 4 s.marks (length w.checkpoints) h.1.0 h.1.1.0)
 
-  back_if : (g : Result (Unit {0}) SolverFault) → first_fault (back-grounds s w.checkpoints) ≡ g → Still accepted Back (λ t. w.rules) (λ t. w.checkpoints) (λ t. w.stack) (decided g (refused s (tt {0})) (left (Ok tt) (restored s (slice_get w.checkpoints (s.marks - 1))) (tt {0})))
+  back_if : (g : Result (Unit {0}) SolverFault) → first_fault (back_grounds s w.checkpoints) ≡ g → Still accepted Back (λ t. w.rules) (λ t. w.checkpoints) (λ t. w.stack) (decided g (refused s (tt {0})) (left (Ok tt) (restored s (slice_get w.checkpoints (s.marks - 1))) (tt {0})))
   back_if (Err f) e = inv
-  back_if (Ok u) e = let h = none_hold (back-grounds s w.checkpoints) u e in inv_restored L J l w rest more deep places inv (stating_if s.phase h.0) (eqb-false s.marks 0 h.1.1.0) (ltb-false (length w.checkpoints) s.marks h.1.0)
+  back_if (Ok u) e = let h = none_hold (back_grounds s w.checkpoints) u e in inv_restored L J l w rest more deep places inv (stating_if s.phase h.0) (eqb-false s.marks 0 h.1.1.0) (ltb-false (length w.checkpoints) s.marks h.1.0)
 
-  keep_if : (g : Result (Unit {0}) SolverFault) → first_fault (keep-grounds s) ≡ g → Still accepted Keep (λ t. w.rules) (λ t. w.checkpoints) (λ t. w.stack) (decided g (refused s (tt {0})) (left (Ok tt) (record { shape = s.shape; rules = s.rules; marks = s.marks - 1; waiting = s.waiting; phase = s.phase; found = s.found }) (tt {0})))
+  keep_if : (g : Result (Unit {0}) SolverFault) → first_fault (keep_grounds s) ≡ g → Still accepted Keep (λ t. w.rules) (λ t. w.checkpoints) (λ t. w.stack) (decided g (refused s (tt {0})) (left (Ok tt) (record { shape = s.shape; rules = s.rules; marks = s.marks - 1; waiting = s.waiting; phase = s.phase; found = s.found }) (tt {0})))
   keep_if (Err f) e = inv
-  keep_if (Ok u) e = let h = none_hold (keep-grounds s) u e in inv_kept L J l w rest more deep places inv (eqb-false s.marks 0 h.1.0)
+  keep_if (Ok u) e = let h = none_hold (keep_grounds s) u e in inv_kept L J l w rest more deep places inv (eqb-false s.marks 0 h.1.0)
 
-  begin_if : (g : Result (Unit {0}) SolverFault) → first_fault (begin-grounds s w.stack) ≡ g → Still accepted Begin (λ t. w.rules) (λ t. w.checkpoints) (λ t. t) (decided g (refused s w.stack) (left (Ok tt) (record { shape = s.shape; rules = s.rules; marks = s.marks; waiting = 1; phase = Searching; found = false }) (set w.stack 0 s.shape)))
+  begin_if : (g : Result (Unit {0}) SolverFault) → first_fault (begin_grounds s w.stack) ≡ g → Still accepted Begin (λ t. w.rules) (λ t. w.checkpoints) (λ t. t) (decided g (refused s w.stack) (left (Ok tt) (record { shape = s.shape; rules = s.rules; marks = s.marks; waiting = 1; phase = Searching; found = false }) (set w.stack 0 s.shape)))
   begin_if (Err f) e = inv
-  begin_if (Ok u) e = let h = none_hold (begin-grounds s w.stack) u e in inv_begun L J l w rest more deep places inv (some_place (length w.stack) h.1.0)
+  begin_if (Ok u) e = let h = none_hold (begin_grounds s w.stack) u e in inv_begun L J l w rest more deep places inv (some_place (length w.stack) h.1.0)
 
-  leave_if : (g : Result (Unit {0}) SolverFault) → first_fault (leave-grounds s) ≡ g → Still accepted Leave (λ t. w.rules) (λ t. w.checkpoints) (λ t. w.stack) (decided g (refused s (tt {0})) (left (Ok tt) (record { shape = s.shape; rules = s.rules; marks = s.marks; waiting = 0; phase = Stating; found = s.found }) (tt {0})))
+  leave_if : (g : Result (Unit {0}) SolverFault) → first_fault (leave_grounds s) ≡ g → Still accepted Leave (λ t. w.rules) (λ t. w.checkpoints) (λ t. w.stack) (decided g (refused s (tt {0})) (left (Ok tt) (record { shape = s.shape; rules = s.rules; marks = s.marks; waiting = 0; phase = Stating; found = s.found }) (tt {0})))
   leave_if (Err f) e = inv
   leave_if (Ok u) e = inv_left L J l w rest more deep places inv
 
-  run_if : (b : ℕ) (out : List (Region S)) (g : Result (Unit {0}) SolverFault) → first_fault (run_grounds s w.rules w.stack) ≡ g → Still Ran (Run b) (λ t. w.rules) (λ t. w.checkpoints) (λ t. t.0) (decided g (refused s (w.stack, out)) (after_run s (run-from M K (take s.rules w.rules) b 0 (at_hand s w.stack out))))
+  run_if : (b : ℕ) (out : List (Region S)) (g : Result (Unit {0}) SolverFault) → first_fault (run_grounds s w.rules w.stack) ≡ g → Still Ran (Run b) (λ t. w.rules) (λ t. w.checkpoints) (λ t. t.0) (decided g (refused s (w.stack, out)) (after_run s (run_from M K (take s.rules w.rules) b 0 (at_hand s w.stack out))))
   run_if b out (Err f) e = inv
   run_if b out (Ok u) e =
       let h = none_hold (run_grounds s w.rules w.stack) u e in
@@ -90,14 +90,14 @@ module _ {S R : Type 0} {M : ShapeModel S} {K : RuleModel R} (L : ShapeLaws M) (
 
   -- any request
   pub inv_called : (out : List (Region S)) (q : Request R) → Inv M K (called M K l w rest more deep out q).after (called M K l w rest more deep out q).world
-  inv_called out (State r) = state_if r (first_fault (state-grounds M K s w.rules r)) refl
-  inv_called out Mark = mark_if (first_fault (mark-grounds s w.checkpoints)) refl
-  inv_called out Back = back_if (first_fault (back-grounds s w.checkpoints)) refl
-  inv_called out Keep = keep_if (first_fault (keep-grounds s)) refl
-  inv_called out Begin = begin_if (first_fault (begin-grounds s w.stack)) refl
+  inv_called out (State r) = state_if r (first_fault (state_grounds M K s w.rules r)) refl
+  inv_called out Mark = mark_if (first_fault (mark_grounds s w.checkpoints)) refl
+  inv_called out Back = back_if (first_fault (back_grounds s w.checkpoints)) refl
+  inv_called out Keep = keep_if (first_fault (keep_grounds s)) refl
+  inv_called out Begin = begin_if (first_fault (begin_grounds s w.stack)) refl
   inv_called out (Run b) = run_if b out (first_fault (run_grounds s w.rules w.stack)) refl
-  inv_called out Leave = leave_if (first_fault (leave-grounds s)) refl
-  inv_called out (Limit p q) = limit_if p q (limit-call M s p q)
+  inv_called out Leave = leave_if (first_fault (leave_grounds s)) refl
+  inv_called out (Limit p q) = limit_if p q (limit_call M s p q)
 
 module _ {S R : Type 0} {M : ShapeModel S} {K : RuleModel R} (L : ShapeLaws M) (J : RuleLaws K) where
   -- it holds along every history

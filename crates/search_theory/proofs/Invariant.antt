@@ -113,8 +113,8 @@ module _ {S R : Type 0} {M : ShapeModel S} {K : RuleModel R} (L : ShapeLaws M) (
         }
 
     -- the ledger after the last of these notes is dropped, with these rules standing
-    abbrev with-notes : List R → List (List R) → Ledger S R
-    with-notes rs ns = record { home = l.home; standing = rs; notes = ns; search = l.search }
+    abbrev with_notes : List R → List (List R) → Ledger S R
+    with_notes rs ns = record { home = l.home; standing = rs; notes = ns; search = l.search }
 
     pub inv_restored : w.solver.phase ≡ Stating → w.solver.marks ≢ 0 → w.solver.marks ≤ length w.checkpoints → Inv M K (heard M K l places Back Accepted) (whole (world (restored w.solver (slice_get w.checkpoints (w.solver.marks - 1))) w.rules w.checkpoints w.stack) rest more deep)
     inv_restored e some h = by l.notes inv.ties.of_checkpoints inv.nested
@@ -125,12 +125,12 @@ module _ {S R : Type 0} {M : ShapeModel S} {K : RuleModel R} (L : ShapeLaws M) (
         f : List R → Checkpoint S
         f = checkpoint_of M K l.home
 
-        by : (ns : List (List R)) → Front s.marks (w.checkpoints ++ more) (reverse (map f ns)) → Nested l.standing ns → Inv M K (with-notes (last_note ns l.standing) (earlier_notes ns)) (whole (world (restored s (slice_get w.checkpoints (s.marks - 1))) w.rules w.checkpoints w.stack) rest more deep)
+        by : (ns : List (List R)) → Front s.marks (w.checkpoints ++ more) (reverse (map f ns)) → Nested l.standing ns → Inv M K (with_notes (last_note ns l.standing) (earlier_notes ns)) (whole (world (restored s (slice_get w.checkpoints (s.marks - 1))) w.rules w.checkpoints w.stack) rest more deep)
         by [] c n = absurd (some c.0)
         by (m ∷ ns) c n =
             let c' = subst (Front s.marks (w.checkpoints ++ more)) (reverse_cons (f m) (map f ns)) c in
             let last = front_last s.marks w.checkpoints (reverse (map f ns)) (f m) (front_lent _ _ _ more h c') in
-            subst (λ o. Inv M K (with-notes m ns) (whole (world (restored s o) w.rules w.checkpoints w.stack) rest more deep)) (sym last) record {
+            subst (λ o. Inv M K (with_notes m ns) (whole (world (restored s o) w.rules w.checkpoints w.stack) rest more deep)) (sym last) record {
               passes = inv.passes;
               ties = record {
                 of_shape = refl;
@@ -156,7 +156,7 @@ module _ {S R : Type 0} {M : ShapeModel S} {K : RuleModel R} (L : ShapeLaws M) (
         f : List R → Checkpoint S
         f = checkpoint_of M K l.home
 
-        by : (ns : List (List R)) → Front w.solver.marks (w.checkpoints ++ more) (reverse (map f ns)) → Nested l.standing ns → Inv M K (with-notes l.standing (earlier_notes ns)) (whole (world one_fewer w.rules w.checkpoints w.stack) rest more deep)
+        by : (ns : List (List R)) → Front w.solver.marks (w.checkpoints ++ more) (reverse (map f ns)) → Nested l.standing ns → Inv M K (with_notes l.standing (earlier_notes ns)) (whole (world one_fewer w.rules w.checkpoints w.stack) rest more deep)
         by [] c n = absurd (some c.0)
         by (m ∷ ns) c n = record {
           passes = inv.passes;

@@ -16,7 +16,7 @@ use Rattle.search_theory.specs.declared.reply.Reply.{Reply}
 use Rattle.search_theory.specs.declared.reply.Reply.TheVariants.{Accepted, Ran, LimitIs}
 use Rattle.search_theory.specs.declared.request.Request.{Request}
 use Rattle.search_theory.specs.declared.request.Request.TheVariants.{Limit}
-use Rattle.search_theory.specs.Calls.{Grounds, limit-call, limit-grounds}
+use Rattle.search_theory.specs.Calls.{Grounds, limit_call, limit_grounds}
 use Rattle.search_theory.specs.Ledgers.{Ledger, noted}
 use Rattle.search_theory.specs.Promise.{WithinCuts, Called, called, KeptLimits}
 use Rattle.search_theory.specs.Regions.{is_void}
@@ -53,10 +53,10 @@ skip false f gs e = refl
 
 -- an answered limit is that of a shape that is not void, at nodes on the line that are not opposite
 module _ {S : Type 0} (M : ShapeModel S) (s : Solving S) (a b : ℕ) where
-  answered_if : (g : Result (Unit {0}) SolverFault) → first_fault (limit-grounds M s a b) ≡ g → (m : ℤ) → decided g Err (Ok (M.limit s.shape a b)) ≡ Ok m → (a < 2 * M.n s.shape) × (b < 2 * M.n s.shape) × (b ≢ opp a) × (M.extent s.shape ≢ Empty) × (M.limit s.shape a b ≡ m)
+  answered_if : (g : Result (Unit {0}) SolverFault) → first_fault (limit_grounds M s a b) ≡ g → (m : ℤ) → decided g Err (Ok (M.limit s.shape a b)) ≡ Ok m → (a < 2 * M.n s.shape) × (b < 2 * M.n s.shape) × (b ≢ opp a) × (M.extent s.shape ≢ Empty) × (M.limit s.shape a b ≡ m)
   answered_if (Err f) e m d = absurd (err≢ok d)
   answered_if (Ok u) e m d =
-      let h = none_hold (limit-grounds M s a b) u e in (
+      let h = none_hold (limit_grounds M s a b) u e in (
         leb-false _ _ h.0,
         leb-false _ _ h.1.0,
         eqb-false _ _ h.1.1.0,
@@ -65,7 +65,7 @@ module _ {S : Type 0} (M : ShapeModel S) (s : Solving S) (a b : ℕ) where
       )
 
   -- at such nodes only a void shape is refused
-  decided_by_void : a < 2 * M.n s.shape → b < 2 * M.n s.shape → b ≢ opp a → (v : Bool) → is_void (M.extent s.shape) ≡ v → limit-call M s a b ≡ decided (first_fault ((v, Void) ∷ [])) Err (Ok (M.limit s.shape a b))
+  decided_by_void : a < 2 * M.n s.shape → b < 2 * M.n s.shape → b ≢ opp a → (v : Bool) → is_void (M.extent s.shape) ≡ v → limit_call M s a b ≡ decided (first_fault ((v, Void) ∷ [])) Err (Ok (M.limit s.shape a b))
   decided_by_void ha hb hab v e =
       let answer : Result (Unit {0}) SolverFault → Result ℤ SolverFault = λ g. decided g Err (Ok (M.limit s.shape a b)) in
       let last : Grounds = (is_void (M.extent s.shape), Void) ∷ [] in
@@ -95,9 +95,9 @@ module _ {S R : Type 0} {M : ShapeModel S} {K : RuleModel R} (L : ShapeLaws M) (
   abbrev Reached : ℕ → ℕ → ℤ → Ledger S R → Type 0
   Reached a b m k = ((x : List ℤ) × WithinCuts K k x × (value x a +ℤ value x b ≡ m)) × ((x : List ℤ) → WithinCuts K k x → (value x a +ℤ value x b) ≤ℤ m)
 
-  reached : (a b : ℕ) (m : ℤ) → limit-call M w.solver a b ≡ Ok m → Reached a b m l
+  reached : (a b : ℕ) (m : ℤ) → limit_call M w.solver a b ≡ Ok m → Reached a b m l
   reached a b m e =
-      let f = answered_if M w.solver a b (first_fault (limit-grounds M w.solver a b)) refl m e in
+      let f = answered_if M w.solver a b (first_fault (limit_grounds M w.solver a b)) refl m e in
       let ha : a < 2 * l.home.n = subst (λ n. a < 2 * n) has_n f.0 in
       let hb : b < 2 * l.home.n = subst (λ n. b < 2 * n) has_n f.1 in
       let filled : M.extent cuts ≢ Empty = λ z. f.3 (ap M.extent is_shape ∙ z) in
@@ -109,7 +109,7 @@ module _ {S R : Type 0} {M : ShapeModel S} {K : RuleModel R} (L : ShapeLaws M) (
   abbrev Refusal : Ledger S R → Result Reply SolverFault → Type 0
   Refusal k r = ((r ≡ Err Void) ↔ ((x : List ℤ) → WithinCuts K k x → ⊥)) × (r ≢ Err Void → (m : ℤ) × (r ≡ Ok (LimitIs m)))
 
-  refusal : (a b : ℕ) → a < 2 * l.home.n → b < 2 * l.home.n → b ≢ opp a → Refusal l (replied LimitIs (limit-call M w.solver a b))
+  refusal : (a b : ℕ) → a < 2 * l.home.n → b < 2 * l.home.n → b ≢ opp a → Refusal l (replied LimitIs (limit_call M w.solver a b))
   refusal a b ha hb hab =
       let by = decided_by_void M w.solver a b (subst (λ n. a < 2 * n) (sym has_n) ha) (subst (λ n. b < 2 * n) (sym has_n) hb) hab in
       ⊎_elim (λ v. subst (λ r. Refusal l (replied LimitIs r)) (sym (by true v)) (when_void (void_if _ v))) (λ v. subst (λ r. Refusal l (replied LimitIs r)) (sym (by false v)) (when_filled v)) (cases_Bool (is_void (M.extent shape)))

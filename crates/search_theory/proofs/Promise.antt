@@ -18,10 +18,10 @@ use Rattle.search_theory.specs.declared.request.Request.{Request}
 use Rattle.search_theory.specs.declared.request.Request.TheVariants.{Run}
 use Rattle.search_theory.specs.Calls.{run_call, run_grounds, at_hand, after_run}
 use Rattle.search_theory.specs.Ledgers.{Ledger, noted}
-use Rattle.search_theory.specs.Promise.{Front, Fits, Called, called, Kept, Run-with, Promise}
+use Rattle.search_theory.specs.Promise.{Front, Fits, Called, called, Kept, RunWith, Promise}
 use Rattle.search_theory.specs.Requests.{World, whole, replied, answered}
 use Rattle.search_theory.specs.RunLaws.{AllMade, Room}
-use Rattle.search_theory.specs.Runs.{Ended, run-from, report_of}
+use Rattle.search_theory.specs.Runs.{Ended, run_from, report_of}
 use Rattle.search_theory.specs.Solving.{refused, decided}
 use Rattle.search_theory.specs.Standing.{shape_of}
 use Rattle.search_theory.proofs.Cases.{err≢ok}
@@ -57,12 +57,12 @@ abbrev RunKept : {S R : Type 0} → RuleModel R → Called S R → Report → Ty
 RunKept K c p = (c.after.search.regions.handed ≡ c.before.search.regions.handed ++ take p.count c.out) × (p.outcome ≡ Done → (p.found ≡ false) ↔ ((x : List ℤ) → Fits K c.after x → ⊥)) × (c.after.search.ample ≡ true → p.outcome ≢ StackFull)
 
 module _ {S R : Type 0} {M : ShapeModel S} {K : RuleModel R} (L : ShapeLaws M) (J : RuleLaws K) (l : Ledger S R) (w : World S R) (rest : List R) (more : List (Checkpoint S)) (deep : List S) (inv : Inv M K l (whole w rest more deep)) (out : List (Region S)) where
-  abbrev ending-by : ℕ → List R → Ended S
-  ending-by b rs = run-from M K rs b 0 (at_hand w.solver w.stack out)
+  abbrev ending_by : ℕ → List R → Ended S
+  ending_by b rs = run_from M K rs b 0 (at_hand w.solver w.stack out)
 
   -- the call of a run with these rules, stopped or not by its grounds
-  abbrev called-by : ℕ → List R → Result (Unit {0}) SolverFault → Called S R
-  called-by b rs g = let a = decided g (refused w.solver (w.stack, out)) (after_run w.solver (ending-by b rs)) in let d = answered Ran a w.rules w.checkpoints a.slices.0 a.slices.1 in record { request = Run b; reply = d.reply; before = l; after = noted M K l (length w.stack) (Run b) d.reply; world = whole d.world rest more deep; out = d.out }
+  abbrev called_by : ℕ → List R → Result (Unit {0}) SolverFault → Called S R
+  called_by b rs g = let a = decided g (refused w.solver (w.stack, out)) (after_run w.solver (ending_by b rs)) in let d = answered Ran a w.rules w.checkpoints a.slices.0 a.slices.1 in record { request = Run b; reply = d.reply; before = l; after = noted M K l (length w.stack) (Run b) d.reply; world = whole d.world rest more deep; out = d.out }
 
   -- the next region to be split has room in a slice that is one place longer than the halvings
   not_full : (b : ℕ) (p : Report) → l.search.phase ≡ Searching → w.solver.waiting ≤ length w.stack → (run_call M K w.solver w.rules w.stack out b).reply ≡ Ok p → l.search.need ≤ length w.stack → p.outcome ≢ StackFull
@@ -74,16 +74,16 @@ module _ {S R : Type 0} {M : ShapeModel S} {K : RuleModel R} (L : ShapeLaws M) (
       let need = inv.need searching in
       ((run_laws L J w.solver w.rules w.stack out b p e).2 l.home.n made).never_full _ room (omega (arith, need, ample))
 
-  kept_by : (b : ℕ) → l.search.phase ≡ Searching → (fits : w.solver.waiting ≤ length w.stack) → (u : Unit {0}) → let c = called-by b l.standing (Ok u) in let e = ending-by b l.standing in (c.after.search.regions.handed ≡ l.search.regions.handed ++ take e.work.count e.work.out) × (e.outcome ≡ Done → (e.work.found ≡ false) ↔ ((x : List ℤ) → Fits K c.after x → ⊥))
+  kept_by : (b : ℕ) → l.search.phase ≡ Searching → (fits : w.solver.waiting ≤ length w.stack) → (u : Unit {0}) → let c = called_by b l.standing (Ok u) in let e = ending_by b l.standing in (c.after.search.regions.handed ≡ l.search.regions.handed ++ take e.work.count e.work.out) × (e.outcome ≡ Done → (e.work.found ≡ false) ↔ ((x : List ℤ) → Fits K c.after x → ⊥))
   kept_by b searching fits u = (
     (tied_after L J l w rest more deep (length w.stack) inv b out fits).of_out,
     λ done.
-        let stopped = subst (λ o. Ending M K l.standing (the_run L J l w rest more deep (length w.stack) inv b out fits).left o (ending-by b l.standing).work) done (the_run L J l w rest more deep (length w.stack) inv b out fits).ending in
+        let stopped = subst (λ o. Ending M K l.standing (the_run L J l w rest more deep (length w.stack) inv b out fits).left o (ending_by b l.standing).work) done (the_run L J l w rest more deep (length w.stack) inv b out fits).ending in
         let gone = none_wait _ _ _ (tied_after L J l w rest more deep (length w.stack) inv b out fits).of_stack stopped in
         found_truly L J _ _ (inv_by L J l w rest more deep (length w.stack) inv b out fits) searching gone,
   )
 
-  run_kept_if : (b : ℕ) (g : Result (Unit {0}) SolverFault) → first_fault (run_grounds w.solver w.rules w.stack) ≡ g → (p : Report) → (called-by b (take w.solver.rules w.rules) g).reply ≡ Ok (Ran p) → (run_call M K w.solver w.rules w.stack out b).reply ≡ Ok p → RunKept K (called-by b (take w.solver.rules w.rules) g) p
+  run_kept_if : (b : ℕ) (g : Result (Unit {0}) SolverFault) → first_fault (run_grounds w.solver w.rules w.stack) ≡ g → (p : Report) → (called_by b (take w.solver.rules w.rules) g).reply ≡ Ok (Ran p) → (run_call M K w.solver w.rules w.stack out b).reply ≡ Ok p → RunKept K (called_by b (take w.solver.rules w.rules) g) p
   run_kept_if b (Err f) e p r a = absurd (err≢ok r)
   run_kept_if b (Ok u) e p r a =
       let h = none_hold (run_grounds w.solver w.rules w.stack) u e in
@@ -93,13 +93,13 @@ module _ {S R : Type 0} {M : ShapeModel S} {K : RuleModel R} (L : ShapeLaws M) (
       let same = ran_same _ p (ok_same r) in
       let stand = rules_stand L J l w rest more deep (length w.stack) inv b out (ltb-false _ _ d.0) in
       let at-standing = kept_by b searching fits u in
-      let both = subst (λ rs. let c = called-by b rs (Ok u) in let end = ending-by b rs in (c.after.search.regions.handed ≡ l.search.regions.handed ++ take end.work.count end.work.out) × (end.outcome ≡ Done → (end.work.found ≡ false) ↔ ((x : List ℤ) → Fits K c.after x → ⊥))) (sym stand) at-standing in
-      subst (RunKept K (called-by b (take w.solver.rules w.rules) (Ok u))) same (both.0, both.1, λ ample. not_full b (report_of (ending-by b (take w.solver.rules w.rules))) searching fits (a ∙ ap Ok (sym same)) (leb-true _ _ (and_parts l.search.ample _ ample).1))
+      let both = subst (λ rs. let c = called_by b rs (Ok u) in let end = ending_by b rs in (c.after.search.regions.handed ≡ l.search.regions.handed ++ take end.work.count end.work.out) × (end.outcome ≡ Done → (end.work.found ≡ false) ↔ ((x : List ℤ) → Fits K c.after x → ⊥))) (sym stand) at-standing in
+      subst (RunKept K (called_by b (take w.solver.rules w.rules) (Ok u))) same (both.0, both.1, λ ample. not_full b (report_of (ending_by b (take w.solver.rules w.rules))) searching fits (a ∙ ap Ok (sym same)) (leb-true _ _ (and_parts l.search.ample _ ample).1))
 
   run_kept : (b : ℕ) (p : Report) → (called M K l w rest more deep out (Run b)).reply ≡ Ok (Ran p) → RunKept K (called M K l w rest more deep out (Run b)) p
   run_kept b p r = run_kept_if b (first_fault (run_grounds w.solver w.rules w.stack)) refl p r (replied_ran (run_call M K w.solver w.rules w.stack out b).reply p r)
 
-  kept_if : (q : Request R) (p : Report) → Run-with (called M K l w rest more deep out q) p → RunKept K (called M K l w rest more deep out q) p
+  kept_if : (q : Request R) (p : Report) → RunWith (called M K l w rest more deep out q) p → RunKept K (called M K l w rest more deep out q) p
   kept_if q p r = subst (λ a. (called M K l w rest more deep out a).reply ≡ Ok (Ran p) → RunKept K (called M K l w rest more deep out a) p) (sym r.0.1) (run_kept r.0.0 p) r.1
 
   pub kept : (q : Request R) → Kept M K (called M K l w rest more deep out q)

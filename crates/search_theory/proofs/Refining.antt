@@ -6,7 +6,7 @@ use Rattle.interface.specs.Cuts.{Meets}
 use Rattle.interface.specs.Rules.{RuleModel, RuleLaws}
 use Rattle.interface.specs.Shapes.{ShapeModel, ShapeLaws, Made, by_cut}
 use Rattle.search_theory.specs.RegionLaws.{Narrowed, Refined}
-use Rattle.search_theory.specs.Regions.{read, is_open, same_limits, cut_if_any, tighten, by-cuts, by-rules, by-rounds, refine}
+use Rattle.search_theory.specs.Regions.{read, is_open, same_limits, cut_if_any, tighten, by_cuts, by_rules, by_rounds, refine}
 use Rattle.search_theory.specs.Standing.{MeetsRules}
 use Rattle.search_theory.proofs.Readings.{read_n, held_within}
 
@@ -41,23 +41,23 @@ module _ {S R : Type 0} {M : ShapeModel S} {K : RuleModel R} (L : ShapeLaws M) (
   narrowed_tighten : (s : S) → Made M s → (r : R) (i : ℕ) → ((x : List ℤ) → P x → K.meets (M.n s) r x ≡ true) → Narrowed M P s (tighten M K r i s)
   narrowed_tighten s m r i met = narrowed_either (is_open (M.extent s)) (narrowed_cut s m (K.proposed r (read M s) i) λ t e x p h. J.proposed_met r (read M s) i t e x (held_within L s m x h) (subst (λ n. K.meets n r x ≡ true) (sym (read_n M s)) (met x p))) (narrowed_none s m)
 
-  narrowed_cuts : (is : List ℕ) (s : S) → Made M s → (r : R) → ((x : List ℤ) → P x → K.meets (M.n s) r x ≡ true) → Narrowed M P s (by-cuts M K r is s)
+  narrowed_cuts : (is : List ℕ) (s : S) → Made M s → (r : R) → ((x : List ℤ) → P x → K.meets (M.n s) r x ≡ true) → Narrowed M P s (by_cuts M K r is s)
   narrowed_cuts [] s m r met = narrowed_none s m
   narrowed_cuts (i ∷ is) s m r met =
       let a = narrowed_tighten s m r i met in
       narrowed_twice a (narrowed_cuts is (tighten M K r i s) a.made r (λ x p. subst (λ n. K.meets n r x ≡ true) (sym a.same_n) (met x p)))
 
-  narrowed_rules : (rs : List R) (s : S) → Made M s → ((x : List ℤ) → P x → MeetsRules K (M.n s) rs x) → Narrowed M P s (by-rules M K rs s)
+  narrowed_rules : (rs : List R) (s : S) → Made M s → ((x : List ℤ) → P x → MeetsRules K (M.n s) rs x) → Narrowed M P s (by_rules M K rs s)
   narrowed_rules [] s m met = narrowed_none s m
   narrowed_rules (r ∷ rs) s m met =
       let a = narrowed_cuts (range_with_len 0 3) s m r (λ x p. (met x p).0) in
-      narrowed_twice a (narrowed_rules rs (by-cuts M K r (range_with_len 0 3) s) a.made (λ x p. subst (λ n. MeetsRules K n rs x) (sym a.same_n) (met x p).1))
+      narrowed_twice a (narrowed_rules rs (by_cuts M K r (range_with_len 0 3) s) a.made (λ x p. subst (λ n. MeetsRules K n rs x) (sym a.same_n) (met x p).1))
 
-  narrowed_rounds : (k : ℕ) (rs : List R) (s : S) → Made M s → ((x : List ℤ) → P x → MeetsRules K (M.n s) rs x) → Narrowed M P s (by-rounds M K k rs s)
+  narrowed_rounds : (k : ℕ) (rs : List R) (s : S) → Made M s → ((x : List ℤ) → P x → MeetsRules K (M.n s) rs x) → Narrowed M P s (by_rounds M K k rs s)
   narrowed_rounds zero rs s m met = narrowed_none s m
   narrowed_rounds (suc k) rs s m met =
       let a = narrowed_rules rs s m met in
-      narrowed_either (same_limits (read M s) (read M (by-rules M K rs s))) a (narrowed_twice a (narrowed_rounds k rs (by-rules M K rs s) a.made (λ x p. subst (λ n. MeetsRules K n rs x) (sym a.same_n) (met x p))))
+      narrowed_either (same_limits (read M s) (read M (by_rules M K rs s))) a (narrowed_twice a (narrowed_rounds k rs (by_rules M K rs s) a.made (λ x p. subst (λ n. MeetsRules K n rs x) (sym a.same_n) (met x p))))
 
 module _ {S R : Type 0} {M : ShapeModel S} {K : RuleModel R} (L : ShapeLaws M) (J : RuleLaws K) where
   pub refined : (rs : List R) (s : S) → Refined M K rs s (refine M K rs s)

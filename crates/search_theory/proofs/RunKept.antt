@@ -15,7 +15,7 @@ use Rattle.search_theory.specs.Calls.{at_hand, after_run}
 use Rattle.search_theory.specs.Ledgers.{Ledger, heard}
 use Rattle.search_theory.specs.Promise.{Fits, Sound}
 use Rattle.search_theory.specs.Requests.{World, whole}
-use Rattle.search_theory.specs.Runs.{Ended, run-from, report_of}
+use Rattle.search_theory.specs.Runs.{Ended, run_from, report_of}
 use Rattle.search_theory.specs.Standing.{shape_of, how_many, shapes_of}
 use Rattle.search_theory.specs.Walks.{walk}
 use Rattle.search_theory.proofs.Fronts.{front_whole, front_lent}
@@ -39,13 +39,13 @@ module _ {S R : Type 0} {M : ShapeModel S} {K : RuleModel R} (L : ShapeLaws M) (
   module _ (l : Ledger S R) (w : World S R) (rest : List R) (more : List (Checkpoint S)) (deep : List S) (places : ℕ) (inv : Inv M K l (whole w rest more deep)) (b : ℕ) (out : List (Region S)) where
     -- the run, if these rules stand
     abbrev pub end_by : List R → Ended S
-    end_by rs = run-from M K rs b 0 (at_hand w.solver w.stack out)
+    end_by rs = run_from M K rs b 0 (at_hand w.solver w.stack out)
 
-    abbrev pub ledger-by : List R → Ledger S R
-    ledger-by rs = heard M K l places (Run b) (Ran (report_of (end_by rs)))
+    abbrev pub ledger_by : List R → Ledger S R
+    ledger_by rs = heard M K l places (Run b) (Ran (report_of (end_by rs)))
 
-    abbrev pub world-by : List R → World S R
-    world-by rs = whole (world (after_run w.solver (end_by rs)).solver w.rules w.checkpoints (end_by rs).work.stack) rest more deep
+    abbrev pub world_by : List R → World S R
+    world_by rs = whole (world (after_run w.solver (end_by rs)).solver w.rules w.checkpoints (end_by rs).work.stack) rest more deep
 
     -- they do
     pub rules_stand : w.solver.rules ≤ length w.rules → take w.solver.rules w.rules ≡ l.standing
@@ -56,12 +56,12 @@ module _ {S R : Type 0} {M : ShapeModel S} {K : RuleModel R} (L : ShapeLaws M) (
       the_run = run_as M K l.standing w.solver.found out (length w.stack) l.search.regions.handed b 0 (at_hand w.solver w.stack out) l.search.regions (tied_start w.solver w.stack out l.search.regions (front_lent w.solver.waiting w.stack (reverse l.search.regions.waiting) deep fits inv.ties.of_stack))
 
       -- in as many steps as it says
-      pub tied_after : Tied w.solver.found out (length w.stack) l.search.regions.handed (end_by l.standing).work (ledger-by l.standing).search.regions
+      pub tied_after : Tied w.solver.found out (length w.stack) l.search.regions.handed (end_by l.standing).work (ledger_by l.standing).search.regions
       tied_after =
           let k : the_run.made ≡ (end_by l.standing).steps = omega (arith, the_run.steps) in
           subst (λ j. Tied w.solver.found out (length w.stack) l.search.regions.handed (end_by l.standing).work (walk M K l.standing j l.search.regions)) k the_run.tied
 
-      found_after : Decides w.solver.found (l.search.regions.handed ≢ []) → Decides (end_by l.standing).work.found ((ledger-by l.standing).search.regions.handed ≢ [])
+      found_after : Decides w.solver.found (l.search.regions.handed ≢ []) → Decides (end_by l.standing).work.found ((ledger_by l.standing).search.regions.handed ≢ [])
       found_after d =
           let t = tied_after in (
             λ f z.
@@ -70,7 +70,7 @@ module _ {S R : Type 0} {M : ShapeModel S} {K : RuleModel R} (L : ShapeLaws M) (
             λ z. t.of_found.1 (⊎_elim (λ a. inl (d.1 a)) inr (one_filled l.search.regions.handed _ (λ y. z (t.of_out ∙ y)))),
           )
 
-      pub inv_by : Inv M K (ledger-by l.standing) (world-by l.standing)
+      pub inv_by : Inv M K (ledger_by l.standing) (world_by l.standing)
       inv_by = record {
         passes = inv.passes;
         ties = record {
@@ -87,8 +87,8 @@ module _ {S R : Type 0} {M : ShapeModel S} {K : RuleModel R} (L : ShapeLaws M) (
         need = inv.need;
       }
 
-      pub inv_ran : w.solver.rules ≤ length w.rules → Inv M K (ledger-by (take w.solver.rules w.rules)) (world-by (take w.solver.rules w.rules))
-      inv_ran h = subst (λ rs. Inv M K (ledger-by rs) (world-by rs)) (sym (rules_stand h)) inv_by
+      pub inv_ran : w.solver.rules ≤ length w.rules → Inv M K (ledger_by (take w.solver.rules w.rules)) (world_by (take w.solver.rules w.rules))
+      inv_ran h = subst (λ rs. Inv M K (ledger_by rs) (world_by rs)) (sym (rules_stand h)) inv_by
 
   -- exact cover and sound regions, of any ledger and world where the invariant holds
   module _ (l : Ledger S R) (w : World S R) (inv : Inv M K l w) (searching : l.search.phase ≡ Searching) where

@@ -18,8 +18,8 @@ use Rattle.search_theory.specs.declared.region.Region.{Region}
 use Rattle.search_theory.specs.Calls.{run_call, run_grounds, at_hand, after_run}
 use Rattle.search_theory.specs.Promise.{Front}
 use Rattle.search_theory.specs.Regions.{refine, classify}
-use Rattle.search_theory.specs.RunLaws.{AllMade, OnlyFitting, Room, Runs, given, Next-is, Outcomes, Moves, Keeps, run_seen, RunLaws}
-use Rattle.search_theory.specs.Runs.{Ended, run-from, report_of}
+use Rattle.search_theory.specs.RunLaws.{AllMade, OnlyFitting, Room, Runs, given, NextIs, Outcomes, Moves, Keeps, run_seen, RunLaws}
+use Rattle.search_theory.specs.Runs.{Ended, run_from, report_of}
 use Rattle.search_theory.specs.Solving.{Solving, refused, decided}
 use Rattle.search_theory.specs.Standing.{MeetsRules, how_many, shapes_of}
 use Rattle.search_theory.specs.Walks.{Held, held, walk}
@@ -43,14 +43,14 @@ module _ {S R : Type 0} (M : ShapeModel S) (K : RuleModel R) (r : Runs S R) wher
   abbrev Means : Outcome → Type 0
   Means Done = r.waiting_after ≡ []
   Means Spent = (r.waiting_after ≢ []) × (r.report.steps ≡ r.budget)
-  Means ListFull = (r.report.steps < r.budget) × ((x : Point) × Next-is M K r.rules r.waiting_after (HandedOut x)) × (r.report.count ≡ length r.out)
-  Means StackFull = (r.report.steps < r.budget) × Next-is M K r.rules r.waiting_after Split × (length r.waiting_after ≡ length r.stack)
+  Means ListFull = (r.report.steps < r.budget) × ((x : Point) × NextIs M K r.rules r.waiting_after (HandedOut x)) × (r.report.count ≡ length r.out)
+  Means StackFull = (r.report.steps < r.budget) × NextIs M K r.rules r.waiting_after Split × (length r.waiting_after ≡ length r.stack)
 
-  next_waits : (f : Fate) → Next-is M K r.rules r.waiting_after f → r.waiting_after ≢ []
+  next_waits : (f : Fate) → NextIs M K r.rules r.waiting_after f → r.waiting_after ≢ []
   next_waits f n e = let d = ap length (sym n.1.1 ∙ e) in let k = length_push n.1.0 n.0 in omega (arith, d, k)
 
   -- the next region has one fate
-  next_one : (f g : Fate) → Next-is M K r.rules r.waiting_after f → Next-is M K r.rules r.waiting_after g → f ≡ g
+  next_one : (f g : Fate) → NextIs M K r.rules r.waiting_after f → NextIs M K r.rules r.waiting_after g → f ≡ g
   next_one f g a b = let e = (same_from_push a.1.0 b.1.0 a.0 b.0 (sym a.1.1 ∙ b.1.1)).1 in sym a.2 ∙ ap (λ s. classify M K r.rules (refine M K r.rules s)) e ∙ b.2
 
   -- no two outcomes mean the same
@@ -86,7 +86,7 @@ module _ {S R : Type 0} (M : ShapeModel S) (K : RuleModel R) (s : Solving S) (ru
   begin = held (reverse (take s.waiting stack)) []
 
   abbrev end : Ended S
-  end = run-from M K rs budget 0 (at_hand s stack out)
+  end = run_from M K rs budget 0 (at_hand s stack out)
 
   abbrev seen : Runs S R
   seen = run_seen s rules stack out budget (report_of end) (after_run s end).solver end.work.stack end.work.out
@@ -191,12 +191,12 @@ module _ {S R : Type 0} (M : ShapeModel S) (K : RuleModel R) (s : Solving S) (ru
 
 -- an accepted run keeps its laws
 module _ {S R : Type 0} {M : ShapeModel S} {K : RuleModel R} (L : ShapeLaws M) (J : RuleLaws K) where
-  laws_if : (s : Solving S) (rules : List R) (stack : List S) (out : List (Region S)) (budget : ℕ) (g : Result (Unit {0}) SolverFault) → first_fault (run_grounds s rules stack) ≡ g → RunLaws M K s rules stack out budget (decided g (refused s (stack, out)) (after_run s (run-from M K (take s.rules rules) budget 0 (at_hand s stack out))))
+  laws_if : (s : Solving S) (rules : List R) (stack : List S) (out : List (Region S)) (budget : ℕ) (g : Result (Unit {0}) SolverFault) → first_fault (run_grounds s rules stack) ≡ g → RunLaws M K s rules stack out budget (decided g (refused s (stack, out)) (after_run s (run_from M K (take s.rules rules) budget 0 (at_hand s stack out))))
   laws_if s rules stack out budget (Err f) e p d = absurd (err≢ok d)
   laws_if s rules stack out budget (Ok u) e p d =
       let none = none_hold (run_grounds s rules stack) u e in
       let fits = ltb-false _ _ (or_parts _ _ none.1.0).1 in
-      let end = run-from M K (take s.rules rules) budget 0 (at_hand s stack out) in
+      let end = run_from M K (take s.rules rules) budget 0 (at_hand s stack out) in
       subst (λ q. let r = run_seen s rules stack out budget q (after_run s end).solver end.work.stack end.work.out in Outcomes M K r × Moves M K r × ((n : ℕ) → AllMade M n r.waiting → Keeps M K n r)) (ok_same d) (run_outcomes M K s rules stack out budget fits, run_moves M K s rules stack out budget fits, λ n made. run_keeps M K s rules stack out budget fits L J n made)
 
   pub run_laws : (s : Solving S) (rules : List R) (stack : List S) (out : List (Region S)) (budget : ℕ) → RunLaws M K s rules stack out budget (run_call M K s rules stack out budget)

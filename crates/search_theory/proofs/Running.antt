@@ -13,10 +13,10 @@ use Rattle.search_theory.specs.declared.region.Region.{Region}
 use Rattle.search_theory.specs.Calls.{at_hand}
 use Rattle.search_theory.specs.Promise.{Front}
 use Rattle.search_theory.specs.Regions.{refine, classify}
-use Rattle.search_theory.specs.RunLaws.{Next-is}
-use Rattle.search_theory.specs.Runs.{Work, Ended, ended, go_on, handed_out, split_in, turn, take-up, step, run-from}
+use Rattle.search_theory.specs.RunLaws.{NextIs}
+use Rattle.search_theory.specs.Runs.{Work, Ended, ended, go_on, handed_out, split_in, turn, take_up, step, run_from}
 use Rattle.search_theory.specs.Solving.{Solving}
-use Rattle.search_theory.specs.Walks.{Held, held, placed, walk-one, walk}
+use Rattle.search_theory.specs.Walks.{Held, held, placed, walk_one, walk}
 use Rattle.search_theory.proofs.Fronts.{reverse_cons, front_push, front_pop, front_last}
 
 -- the work is what the lists say; base was handed out before; the run started with found, out and so many stack places
@@ -53,11 +53,11 @@ Stopped w f StackFull = (f ≡ Split) × (length w.stack ≤ w.waiting)
 
 module _ {S R : Type 0} (M : ShapeModel S) (K : RuleModel R) (rs : List R) (found : Bool) (out : List (Region S)) (places : ℕ) (base : List (Region S)) where
   -- after the step the work is tied to the lists after it, or the step was not made for a reason
-  abbrev pub After-step : Work S → Fate → Held S → Result (Work S) Outcome → Type 0
-  After-step w f h (Ok v) = Tied found out places base v h
-  After-step w f h (Err o) = Stopped w f o
+  abbrev pub AfterStep : Work S → Fate → Held S → Result (Work S) Outcome → Type 0
+  AfterStep w f h (Ok v) = Tied found out places base v h
+  AfterStep w f h (Err o) = Stopped w f o
 
-  pub after_turn : (w : Work S) (s : S) (ws : List S) (hs : List (Region S)) → Tied found out places base w (held (s ∷ ws) hs) → (t : S) (f : Fate) → After-step w f (placed M t f ws hs) (turn M K w t f)
+  pub after_turn : (w : Work S) (s : S) (ws : List S) (hs : List (Region S)) → Tied found out places base w (held (s ∷ ws) hs) → (t : S) (f : Fate) → AfterStep w f (placed M t f ws hs) (turn M K w t f)
   after_turn w s ws hs d t Dropped = record {
     of_stack = front_pop _ _ (reverse ws) s (subst (Front _ _) (reverse_cons s ws) d.of_stack);
     of_out = d.of_out;
@@ -80,7 +80,7 @@ module _ {S R : Type 0} (M : ShapeModel S) (K : RuleModel R) (rs : List R) (foun
         out_places = length-set w.out w.count g ∙ d.out_places;
         stack_places = d.stack_places;
       } in
-      cond_both (ltb w.count (length w.out)) _ _ (After-step w (HandedOut x) (held ws (hs ++ g ∷ []))) (λ e. made (ltb-true _ _ e)) (λ e. ((x, refl), ltb-false _ _ e))
+      cond_both (ltb w.count (length w.out)) _ _ (AfterStep w (HandedOut x) (held ws (hs ++ g ∷ []))) (λ e. made (ltb-true _ _ e)) (λ e. ((x, refl), ltb-false _ _ e))
   after_turn w s ws hs d t Split =
       let low = M.lower t in
       let up = M.upper t in
@@ -102,20 +102,20 @@ module _ {S R : Type 0} (M : ShapeModel S) (K : RuleModel R) (rs : List R) (foun
         out_places = d.out_places;
         stack_places = length-set (set w.stack (w.waiting - 1) up) w.waiting low ∙ same ∙ d.stack_places;
       } in
-      cond_both (ltb w.waiting (length w.stack)) _ _ (After-step w Split (held (low ∷ up ∷ ws) hs)) (λ e. made (ltb-true _ _ e)) (λ e. (refl, ltb-false _ _ e))
+      cond_both (ltb w.waiting (length w.stack)) _ _ (AfterStep w Split (held (low ∷ up ∷ ws) hs)) (λ e. made (ltb-true _ _ e)) (λ e. (refl, ltb-false _ _ e))
 
-  pub after_step : (w : Work S) (s : S) (ws : List S) (hs : List (Region S)) → Tied found out places base w (held (s ∷ ws) hs) → After-step w (classify M K rs (refine M K rs s)) (walk-one M K rs (s ∷ ws) hs) (step M K rs w)
+  pub after_step : (w : Work S) (s : S) (ws : List S) (hs : List (Region S)) → Tied found out places base w (held (s ∷ ws) hs) → AfterStep w (classify M K rs (refine M K rs s)) (walk_one M K rs (s ∷ ws) hs) (step M K rs w)
   after_step w s ws hs d =
       let top = front_last w.waiting w.stack (reverse ws) s (subst (Front _ _) (reverse_cons s ws) d.of_stack) in
-      subst (λ o. After-step w (classify M K rs (refine M K rs s)) (walk-one M K rs (s ∷ ws) hs) (take-up M K rs w o)) (sym top) (after_turn w s ws hs d (refine M K rs s) (classify M K rs (refine M K rs s)))
+      subst (λ o. AfterStep w (classify M K rs (refine M K rs s)) (walk_one M K rs (s ∷ ws) hs) (take_up M K rs w o)) (sym top) (after_turn w s ws hs d (refine M K rs s) (classify M K rs (refine M K rs s)))
 
 module _ {S R : Type 0} (M : ShapeModel S) (K : RuleModel R) (rs : List R) where
   -- why a run ends, with so many steps left of its budget
   abbrev pub Ending : ℕ → Outcome → Work S → Type 0
   Ending left Done w = w.waiting ≡ 0
   Ending left Spent w = (w.waiting ≢ 0) × (left ≡ 0)
-  Ending left ListFull w = (w.waiting ≢ 0) × (0 < left) × ((x : Point) × Next-is M K rs (take w.waiting w.stack) (HandedOut x)) × (length w.out ≤ w.count)
-  Ending left StackFull w = (w.waiting ≢ 0) × (0 < left) × Next-is M K rs (take w.waiting w.stack) Split × (length w.stack ≤ w.waiting)
+  Ending left ListFull w = (w.waiting ≢ 0) × (0 < left) × ((x : Point) × NextIs M K rs (take w.waiting w.stack) (HandedOut x)) × (length w.out ≤ w.count)
+  Ending left StackFull w = (w.waiting ≢ 0) × (0 < left) × NextIs M K rs (take w.waiting w.stack) Split × (length w.stack ≤ w.waiting)
 
 -- a run with budget b after i steps, from the lists h: how many steps it made and has left, and why it ended
 pub record RunAs {S R : Type 0} (M : ShapeModel S) (K : RuleModel R) (rs : List R) (found : Bool) (out : List (Region S)) (places : ℕ) (base : List (Region S)) (b i : ℕ) (h : Held S) (e : Ended S) : Type 0 where
@@ -137,20 +137,20 @@ module _ {S R : Type 0} (M : ShapeModel S) (K : RuleModel R) (rs : List R) (foun
   ends_stopped b i w s ws hs d some ListFull e = (some, omega arith, (e.0.0, (s, (reverse ws, d.of_stack.1 ∙ reverse_cons s ws), e.0.1)), e.1)
   ends_stopped b i w s ws hs d some StackFull e = (some, omega arith, (s, (reverse ws, d.of_stack.1 ∙ reverse_cons s ws), e.0), e.1)
 
-  goes_on : (b i : ℕ) (w : Work S) (s : S) (ws : List S) (hs : List (Region S)) → Tied found out places base w (held (s ∷ ws) hs) → w.waiting ≢ 0 → ((v : Work S) (h : Held S) → Tied found out places base v h → RunAs M K rs found out places base b (i + 1) h (run-from M K rs b (i + 1) v)) → (r : Result (Work S) Outcome) → After-step M K rs found out places base w (classify M K rs (refine M K rs s)) (walk-one M K rs (s ∷ ws) hs) r → RunAs M K rs found out places base (suc b) i (held (s ∷ ws) hs) (go_on r (λ o. ended o i w) (run-from M K rs b (i + 1)))
+  goes_on : (b i : ℕ) (w : Work S) (s : S) (ws : List S) (hs : List (Region S)) → Tied found out places base w (held (s ∷ ws) hs) → w.waiting ≢ 0 → ((v : Work S) (h : Held S) → Tied found out places base v h → RunAs M K rs found out places base b (i + 1) h (run_from M K rs b (i + 1) v)) → (r : Result (Work S) Outcome) → AfterStep M K rs found out places base w (classify M K rs (refine M K rs s)) (walk_one M K rs (s ∷ ws) hs) r → RunAs M K rs found out places base (suc b) i (held (s ∷ ws) hs) (go_on r (λ o. ended o i w) (run_from M K rs b (i + 1)))
   goes_on b i w s ws hs d some more (Ok v) a =
-      let r = more v (walk-one M K rs (s ∷ ws) hs) a in
+      let r = more v (walk_one M K rs (s ∷ ws) hs) a in
       record { made = suc r.made; left = r.left; budget = omega (arith, r.budget); steps = omega (arith, r.steps); tied = r.tied; ending = r.ending }
   goes_on b i w s ws hs d some more (Err o) a = ends_here (suc b) i w (held (s ∷ ws) hs) d o (ends_stopped b i w s ws hs d some o a)
 
   -- something waits, and a step is left
-  takes_one : (b i : ℕ) (w : Work S) (h : Held S) → Tied found out places base w h → w.waiting ≢ 0 → ((v : Work S) (g : Held S) → Tied found out places base v g → RunAs M K rs found out places base b (i + 1) g (run-from M K rs b (i + 1) v)) → RunAs M K rs found out places base (suc b) i h (go_on (step M K rs w) (λ o. ended o i w) (run-from M K rs b (i + 1)))
+  takes_one : (b i : ℕ) (w : Work S) (h : Held S) → Tied found out places base w h → w.waiting ≢ 0 → ((v : Work S) (g : Held S) → Tied found out places base v g → RunAs M K rs found out places base b (i + 1) g (run_from M K rs b (i + 1) v)) → RunAs M K rs found out places base (suc b) i h (go_on (step M K rs w) (λ o. ended o i w) (run_from M K rs b (i + 1)))
   takes_one b i w h d some more = by h.waiting h.handed d
     where
-      by : (ws : List S) (hs : List (Region S)) → Tied found out places base w (held ws hs) → RunAs M K rs found out places base (suc b) i (held ws hs) (go_on (step M K rs w) (λ o. ended o i w) (run-from M K rs b (i + 1)))
+      by : (ws : List S) (hs : List (Region S)) → Tied found out places base w (held ws hs) → RunAs M K rs found out places base (suc b) i (held ws hs) (go_on (step M K rs w) (λ o. ended o i w) (run_from M K rs b (i + 1)))
       by [] hs d = absurd (some d.of_stack.0)
       by (s ∷ ws) hs d = goes_on b i w s ws hs d some more (step M K rs w) (after_step M K rs found out places base w s ws hs d)
 
-  pub run_as : (b i : ℕ) (w : Work S) (h : Held S) → Tied found out places base w h → RunAs M K rs found out places base b i h (run-from M K rs b i w)
+  pub run_as : (b i : ℕ) (w : Work S) (h : Held S) → Tied found out places base w h → RunAs M K rs found out places base b i h (run_from M K rs b i w)
   run_as zero i w h d = cond_both (eqb w.waiting 0) _ _ (RunAs M K rs found out places base 0 i h) (λ e. ends_here 0 i w h d Done (eqb-true _ _ e)) (λ e. ends_here 0 i w h d Spent (eqb-false _ _ e, refl))
   run_as (suc b) i w h d = cond_both (eqb w.waiting 0) _ _ (RunAs M K rs found out places base (suc b) i h) (λ e. ends_here (suc b) i w h d Done (eqb-true _ _ e)) (λ e. takes_one b i w h d (eqb-false _ _ e) (λ v g t. run_as b (i + 1) v g t))

@@ -8,11 +8,11 @@ use Rattle.interface.specs.Shapes.{ShapeModel, ShapeLaws, Made, one_if, by_lower
 use Rattle.search_theory.specs.declared.fate.Fate.{Fate}
 use Rattle.search_theory.specs.declared.fate.Fate.TheVariants.{Dropped, HandedOut, Split}
 use Rattle.search_theory.specs.declared.region.Region.{Region}
-use Rattle.search_theory.specs.RegionLaws.{Narrowed, True-fate}
+use Rattle.search_theory.specs.RegionLaws.{Narrowed, TrueFate}
 use Rattle.search_theory.specs.Regions.{refine, classify}
 use Rattle.search_theory.specs.RunLaws.{Room, RoomUnder}
 use Rattle.search_theory.specs.Standing.{MeetsRules, how_many, shapes_of}
-use Rattle.search_theory.specs.Walks.{Held, held, placed, walk-one, walk}
+use Rattle.search_theory.specs.Walks.{Held, held, placed, walk_one, walk}
 use Rattle.search_theory.proofs.Classifying.{classified}
 use Rattle.search_theory.proofs.Counting.{same_bool, false_if_not, how_many_pushed}
 use Rattle.search_theory.proofs.Readings.{lower_adds_none, upper_adds_none}
@@ -31,7 +31,7 @@ room_left M most (s ∷ ss) r = (omega (arith, r.0), r.1)
 
 module _ {S R : Type 0} {M : ShapeModel S} {K : RuleModel R} (L : ShapeLaws M) (J : RuleLaws K) (rs : List R) (n : ℕ) (In : List ℤ → Type 0) (c : List ℤ → ℕ) where
   -- a narrowed region t of s, put in its place by its fate
-  good_placed : (s t : S) (ws : List S) (hs : List (Region S)) → M.n s ≡ n → Narrowed M (MeetsRules K (M.n s) rs) s t → (f : Fate) → True-fate M K rs t f → Good M K rs n In c (held (s ∷ ws) hs) → Good M K rs n In c (placed M t f ws hs)
+  good_placed : (s t : S) (ws : List S) (hs : List (Region S)) → M.n s ≡ n → Narrowed M (MeetsRules K (M.n s) rs) s t → (f : Fate) → TrueFate M K rs t f → Good M K rs n In c (held (s ∷ ws) hs) → Good M K rs n In c (placed M t f ws hs)
   good_placed s t ws hs en a Dropped true-f g = record {
     waiting_made = g.waiting_made.1;
     handed_fit = g.handed_fit;
@@ -67,7 +67,7 @@ module _ {S R : Type 0} {M : ShapeModel S} {K : RuleModel R} (L : ShapeLaws M) (
             omega (arith, e, z, d);
       }
 
-  good_one : (ws : List S) (hs : List (Region S)) → Good M K rs n In c (held ws hs) → Good M K rs n In c (walk-one M K rs ws hs)
+  good_one : (ws : List S) (hs : List (Region S)) → Good M K rs n In c (held ws hs) → Good M K rs n In c (walk_one M K rs ws hs)
   good_one [] hs g = g
   good_one (s ∷ ws) hs g =
       let a = refined L J rs s g.waiting_made.0.0 in
@@ -75,15 +75,15 @@ module _ {S R : Type 0} {M : ShapeModel S} {K : RuleModel R} (L : ShapeLaws M) (
 
   pub good_walk : (k : ℕ) (h : Held S) → Good M K rs n In c h → Good M K rs n In c (walk M K rs k h)
   good_walk zero h g = g
-  good_walk (suc k) h g = good_walk k (walk-one M K rs h.waiting h.handed) (good_one h.waiting h.handed g)
+  good_walk (suc k) h g = good_walk k (walk_one M K rs h.waiting h.handed) (good_one h.waiting h.handed g)
 
   -- room is kept: each part of a split region has fewer halvings
-  room_placed : (most : ℕ) (s t : S) (ws : List S) (hs : List (Region S)) → Made M t → M.halvings t ≤ M.halvings s → (f : Fate) → True-fate M K rs t f → Room M most (s ∷ ws) → Room M most (placed M t f ws hs).waiting
+  room_placed : (most : ℕ) (s t : S) (ws : List S) (hs : List (Region S)) → Made M t → M.halvings t ≤ M.halvings s → (f : Fate) → TrueFate M K rs t f → Room M most (s ∷ ws) → Room M most (placed M t f ws hs).waiting
   room_placed most s t ws hs m le Dropped true-f r = room_left M most ws r.1
   room_placed most s t ws hs m le (HandedOut p) true-f r = room_left M most ws r.1
   room_placed most s t ws hs m le Split true-f r = let low = L.split_halvings t m true-f in (omega (arith, low.0, le, r.0), (omega (arith, low.1, le, r.0), r.1))
 
-  room_one : (most : ℕ) (ws : List S) (hs : List (Region S)) → Good M K rs n In c (held ws hs) → Room M most ws → Room M most (walk-one M K rs ws hs).waiting
+  room_one : (most : ℕ) (ws : List S) (hs : List (Region S)) → Good M K rs n In c (held ws hs) → Room M most ws → Room M most (walk_one M K rs ws hs).waiting
   room_one most [] hs g r = r
   room_one most (s ∷ ws) hs g r =
       let a = refined L J rs s g.waiting_made.0.0 in
@@ -91,12 +91,12 @@ module _ {S R : Type 0} {M : ShapeModel S} {K : RuleModel R} (L : ShapeLaws M) (
 
   pub room_walk : (most k : ℕ) (h : Held S) → Good M K rs n In c h → Room M most h.waiting → Room M most (walk M K rs k h).waiting
   room_walk most zero h g r = r
-  room_walk most (suc k) h g r = room_walk most k (walk-one M K rs h.waiting h.handed) (good_one h.waiting h.handed g) (room_one most h.waiting h.handed g r)
+  room_walk most (suc k) h g r = room_walk most k (walk_one M K rs h.waiting h.handed) (good_one h.waiting h.handed g) (room_one most h.waiting h.handed g r)
 
   -- where the next region is split, more than one place under the most is left
   pub split_has_room : (most : ℕ) (s : S) (ws : List S) → Made M s → classify M K rs (refine M K rs s) ≡ Split → Room M most (s ∷ ws) → length ws < most
   split_has_room most s ws m e r =
       let a = refined L J rs s m in
-      let o = subst (True-fate M K rs (refine M K rs s)) e (classified L J rs (refine M K rs s) a.made) in
+      let o = subst (TrueFate M K rs (refine M K rs s)) e (classified L J rs (refine M K rs s) a.made) in
       let one = L.open_halvings (refine M K rs s) a.made o in
       omega (arith, one, a.no_more_halvings, r.0)

@@ -14,7 +14,7 @@ use Rattle.search_theory.specs.declared.phase.Phase.TheVariants.{Stating, Search
 use Rattle.search_theory.specs.declared.region.Region.{Region}
 use Rattle.search_theory.specs.declared.report.Report.{Report}
 use Rattle.search_theory.specs.Regions.{is_void, cut_if_any}
-use Rattle.search_theory.specs.Runs.{Work, Ended, run-from, report_of}
+use Rattle.search_theory.specs.Runs.{Work, Ended, run_from, report_of}
 use Rattle.search_theory.specs.Solving.{Solving, Left, left, refused, decided, is_stating, is_searching}
 
 -- grounds for a refusal, the first that holds decides
@@ -42,64 +42,64 @@ abbrev pub after_run : {S : Type 0} → Solving S → Ended S → Left S Report 
 after_run s e = left (Ok (report_of e)) (record { shape = s.shape; rules = s.rules; marks = s.marks; waiting = e.work.waiting; phase = s.phase; found = e.work.found }) (e.work.stack, e.work.out)
 
 module _ {S R : Type 0} (M : ShapeModel S) (K : RuleModel R) where
-  abbrev pub state-grounds : Solving S → List R → R → Grounds
-  state-grounds s rules r = (not (is_stating s.phase), Phase) ∷ (nat_lt (length rules) s.rules, Short) ∷ (record_grounds (K.check (M.n s.shape) r) ++ (nat_le 32 s.rules || (length rules == s.rules), Rules) ∷ [])
+  abbrev pub state_grounds : Solving S → List R → R → Grounds
+  state_grounds s rules r = (not (is_stating s.phase), Phase) ∷ (nat_lt (length rules) s.rules, Short) ∷ (record_grounds (K.check (M.n s.shape) r) ++ (nat_le 32 s.rules || (length rules == s.rules), Rules) ∷ [])
 
   -- the rule stands after the others, and its standing cut is applied
   abbrev pub stated : Solving S → R → Solving S
   stated s r = record { shape = cut_if_any M s.shape (K.standing (M.n s.shape) r); rules = s.rules + 1; marks = s.marks; waiting = s.waiting; phase = s.phase; found = s.found }
 
-  abbrev pub state-call : Solving S → List R → R → Left S (Unit {0}) (List R)
-  state-call s rules r = decided (first_fault (state-grounds s rules r)) (refused s rules) (left (Ok tt) (stated s r) (slice_set rules s.rules r))
+  abbrev pub state_call : Solving S → List R → R → Left S (Unit {0}) (List R)
+  state_call s rules r = decided (first_fault (state_grounds s rules r)) (refused s rules) (left (Ok tt) (stated s r) (slice_set rules s.rules r))
 
   -- a run works with the rules that stand, the first ones of the rule slice
   abbrev pub run_call : Solving S → List R → List S → List (Region S) → ℕ → Left S Report (List S × List (Region S))
-  run_call s rules stack out budget = decided (first_fault (run_grounds s rules stack)) (refused s (stack, out)) (after_run s (run-from M K (take s.rules rules) budget 0 (at_hand s stack out)))
+  run_call s rules stack out budget = decided (first_fault (run_grounds s rules stack)) (refused s (stack, out)) (after_run s (run_from M K (take s.rules rules) budget 0 (at_hand s stack out)))
 
 module _ {S : Type 0} where
-  abbrev pub mark-grounds : Solving S → List (Checkpoint S) → Grounds
-  mark-grounds s checkpoints = (not (is_stating s.phase), Phase) ∷ (nat_lt (length checkpoints) s.marks, Short) ∷ (nat_le 4 s.marks || (length checkpoints == s.marks), Marks) ∷ []
+  abbrev pub mark_grounds : Solving S → List (Checkpoint S) → Grounds
+  mark_grounds s checkpoints = (not (is_stating s.phase), Phase) ∷ (nat_lt (length checkpoints) s.marks, Short) ∷ (nat_le 4 s.marks || (length checkpoints == s.marks), Marks) ∷ []
 
   abbrev pub marked : Solving S → Solving S
   marked s = record { shape = s.shape; rules = s.rules; marks = s.marks + 1; waiting = s.waiting; phase = s.phase; found = s.found }
 
   -- a checkpoint of shape and count is put after the others
-  abbrev pub mark-call : Solving S → List (Checkpoint S) → Left S (Unit {0}) (List (Checkpoint S))
-  mark-call s checkpoints = decided (first_fault (mark-grounds s checkpoints)) (refused s checkpoints) (left (Ok tt) (marked s) (slice_set checkpoints s.marks (record { shape = s.shape; rules = s.rules })))
+  abbrev pub mark_call : Solving S → List (Checkpoint S) → Left S (Unit {0}) (List (Checkpoint S))
+  mark_call s checkpoints = decided (first_fault (mark_grounds s checkpoints)) (refused s checkpoints) (left (Ok tt) (marked s) (slice_set checkpoints s.marks (record { shape = s.shape; rules = s.rules })))
 
-  abbrev pub back-grounds : Solving S → List (Checkpoint S) → Grounds
-  back-grounds s checkpoints = (not (is_stating s.phase), Phase) ∷ (nat_lt (length checkpoints) s.marks, Short) ∷ ((s.marks == 0), Unmarked) ∷ []
+  abbrev pub back_grounds : Solving S → List (Checkpoint S) → Grounds
+  back_grounds s checkpoints = (not (is_stating s.phase), Phase) ∷ (nat_lt (length checkpoints) s.marks, Short) ∷ ((s.marks == 0), Unmarked) ∷ []
 
   -- the last checkpoint is restored and dropped
-  abbrev pub back-call : Solving S → List (Checkpoint S) → Left S (Unit {0}) (Unit {0})
-  back-call s checkpoints = decided (first_fault (back-grounds s checkpoints)) (refused s tt) (left (Ok tt) (restored s (slice_get checkpoints (s.marks - 1))) tt)
+  abbrev pub back_call : Solving S → List (Checkpoint S) → Left S (Unit {0}) (Unit {0})
+  back_call s checkpoints = decided (first_fault (back_grounds s checkpoints)) (refused s tt) (left (Ok tt) (restored s (slice_get checkpoints (s.marks - 1))) tt)
 
-  abbrev pub keep-grounds : Solving S → Grounds
-  keep-grounds s = (not (is_stating s.phase), Phase) ∷ ((s.marks == 0), Unmarked) ∷ []
+  abbrev pub keep_grounds : Solving S → Grounds
+  keep_grounds s = (not (is_stating s.phase), Phase) ∷ ((s.marks == 0), Unmarked) ∷ []
 
   -- the last checkpoint is dropped
-  abbrev pub keep-call : Solving S → Left S (Unit {0}) (Unit {0})
-  keep-call s = decided (first_fault (keep-grounds s)) (refused s tt) (left (Ok tt) (record { shape = s.shape; rules = s.rules; marks = s.marks - 1; waiting = s.waiting; phase = s.phase; found = s.found }) tt)
+  abbrev pub keep_call : Solving S → Left S (Unit {0}) (Unit {0})
+  keep_call s = decided (first_fault (keep_grounds s)) (refused s tt) (left (Ok tt) (record { shape = s.shape; rules = s.rules; marks = s.marks - 1; waiting = s.waiting; phase = s.phase; found = s.found }) tt)
 
-  abbrev pub begin-grounds : Solving S → List S → Grounds
-  begin-grounds s stack = (not (is_stating s.phase), Phase) ∷ ((length stack == 0), Stack) ∷ []
+  abbrev pub begin_grounds : Solving S → List S → Grounds
+  begin_grounds s stack = (not (is_stating s.phase), Phase) ∷ ((length stack == 0), Stack) ∷ []
 
   -- the shape alone waits, and nothing was handed out yet
-  abbrev pub begin-call : Solving S → List S → Left S (Unit {0}) (List S)
-  begin-call s stack = decided (first_fault (begin-grounds s stack)) (refused s stack) (left (Ok tt) (record { shape = s.shape; rules = s.rules; marks = s.marks; waiting = 1; phase = Searching; found = false }) (slice_set stack 0 s.shape))
+  abbrev pub begin_call : Solving S → List S → Left S (Unit {0}) (List S)
+  begin_call s stack = decided (first_fault (begin_grounds s stack)) (refused s stack) (left (Ok tt) (record { shape = s.shape; rules = s.rules; marks = s.marks; waiting = 1; phase = Searching; found = false }) (slice_set stack 0 s.shape))
 
-  abbrev pub leave-grounds : Solving S → Grounds
-  leave-grounds s = (not (is_searching s.phase), Phase) ∷ []
+  abbrev pub leave_grounds : Solving S → Grounds
+  leave_grounds s = (not (is_searching s.phase), Phase) ∷ []
 
   -- what waits is forgotten
-  abbrev pub leave-call : Solving S → Left S (Unit {0}) (Unit {0})
-  leave-call s = decided (first_fault (leave-grounds s)) (refused s tt) (left (Ok tt) (record { shape = s.shape; rules = s.rules; marks = s.marks; waiting = 0; phase = Stating; found = s.found }) tt)
+  abbrev pub leave_call : Solving S → Left S (Unit {0}) (Unit {0})
+  leave_call s = decided (first_fault (leave_grounds s)) (refused s tt) (left (Ok tt) (record { shape = s.shape; rules = s.rules; marks = s.marks; waiting = 0; phase = Stating; found = s.found }) tt)
 
 module _ {S : Type 0} (M : ShapeModel S) where
   -- the nodes are checked as a pair's, whose fields stand at bytes 2 and 3
-  abbrev pub limit-grounds : Solving S → ℕ → ℕ → Grounds
-  limit-grounds s p q = (nat_le (2 * M.n s.shape) p, Record (Node 2)) ∷ (nat_le (2 * M.n s.shape) q, Record (Node 3)) ∷ ((q == opp p), Record (Clash 3)) ∷ (is_void (M.extent s.shape), Void) ∷ []
+  abbrev pub limit_grounds : Solving S → ℕ → ℕ → Grounds
+  limit_grounds s p q = (nat_le (2 * M.n s.shape) p, Record (Node 2)) ∷ (nat_le (2 * M.n s.shape) q, Record (Node 3)) ∷ ((q == opp p), Record (Clash 3)) ∷ (is_void (M.extent s.shape), Void) ∷ []
 
   -- the limit of the solver's own shape
-  abbrev pub limit-call : Solving S → ℕ → ℕ → Result ℤ SolverFault
-  limit-call s p q = decided (first_fault (limit-grounds s p q)) Err (Ok (M.limit s.shape p q))
+  abbrev pub limit_call : Solving S → ℕ → ℕ → Result ℤ SolverFault
+  limit_call s p q = decided (first_fault (limit_grounds s p q)) Err (Ok (M.limit s.shape p q))

@@ -67,25 +67,25 @@ module _ {S R : Type 0} (M : ShapeModel S) (K : RuleModel R) where
   called l w rest more deep out q = let a = answer M K w out q in record { request = q; reply = a.reply; before = l; after = noted M K l (length w.stack) q a.reply; world = whole a.world rest more deep; out = a.out }
 
 module _ {S R : Type 0} (c : Called S R) where
-  abbrev pub Searching-now : Type 0
-  Searching-now = c.after.search.phase ≡ Searching
+  abbrev pub SearchingNow : Type 0
+  SearchingNow = c.after.search.phase ≡ Searching
 
   -- the call was a run that answered this report
-  abbrev pub Run-with : Report → Type 0
-  Run-with p = ((b : ℕ) × (c.request ≡ Run b)) × (c.reply ≡ Ok (Ran p))
+  abbrev pub RunWith : Report → Type 0
+  RunWith p = ((b : ℕ) × (c.request ≡ Run b)) × (c.reply ≡ Ok (Ran p))
 
 -- what holds for every shape
 pub record Kept {S R : Type 0} (M : ShapeModel S) (K : RuleModel R) (c : Called S R) : Type 0 where
   pub ties : Ties M K c.after c.world
   -- what a run hands out stands at the front of the out slice
-  pub put_out : (p : Report) → Run-with c p → c.after.search.regions.handed ≡ c.before.search.regions.handed ++ take p.count c.out
+  pub put_out : (p : Report) → RunWith c p → c.after.search.regions.handed ≡ c.before.search.regions.handed ++ take p.count c.out
   -- every point that fits lies in exactly one region, handed out or waiting
-  pub exact_cover : Searching-now c → (x : List ℤ) → Fits K c.after x → how_many M (shapes_of c.after.search.regions.handed) x + how_many M c.after.search.regions.waiting x ≡ 1
-  pub sound_regions : Searching-now c → All (Sound M K c.after) c.after.search.regions.handed
+  pub exact_cover : SearchingNow c → (x : List ℤ) → Fits K c.after x → how_many M (shapes_of c.after.search.regions.handed) x + how_many M c.after.search.regions.waiting x ≡ 1
+  pub sound_regions : SearchingNow c → All (Sound M K c.after) c.after.search.regions.handed
   -- at done, nothing was found exactly if no point fits
-  pub truthful_found : (p : Report) → Run-with c p → p.outcome ≡ Done → (p.found ≡ false) ↔ ((x : List ℤ) → Fits K c.after x → ⊥)
+  pub truthful_found : (p : Report) → RunWith c p → p.outcome ≡ Done → (p.found ≡ false) ↔ ((x : List ℤ) → Fits K c.after x → ⊥)
   -- one place more than the halvings is enough
-  pub stack_suffices : c.after.search.ample ≡ true → (p : Report) → Run-with c p → p.outcome ≢ StackFull
+  pub stack_suffices : c.after.search.ample ≡ true → (p : Report) → RunWith c p → p.outcome ≢ StackFull
 
 -- what holds besides for shapes that are exact
 pub record KeptLimits {S R : Type 0} (K : RuleModel R) (c : Called S R) : Type 0 where

@@ -22,10 +22,10 @@ module _ {S R : Type 0} (M : ShapeModel S) (K : RuleModel R) (rs : List R) where
   Refined s t = Made M s → Narrowed M (MeetsRules K (M.n s) rs) s t
 
   -- dropped: no held point meets the rules; handed out: every one does, and the given point is held; split: the region is open
-  abbrev pub True-fate : S → Fate → Type 0
-  True-fate s Dropped = (x : List ℤ) → M.holds s x ≡ true → MeetsRules K (M.n s) rs x → ⊥
-  True-fate s (HandedOut p) = ((x : List ℤ) → M.holds s x ≡ true → MeetsRules K (M.n s) rs x) × (M.holds s (values_of p) ≡ true)
-  True-fate s Split = M.extent s ≡ Open
+  abbrev pub TrueFate : S → Fate → Type 0
+  TrueFate s Dropped = (x : List ℤ) → M.holds s x ≡ true → MeetsRules K (M.n s) rs x → ⊥
+  TrueFate s (HandedOut p) = ((x : List ℤ) → M.holds s x ≡ true → MeetsRules K (M.n s) rs x) × (M.holds s (values_of p) ≡ true)
+  TrueFate s Split = M.extent s ≡ Open
 
   abbrev pub Classified : S → Fate → Type 0
-  Classified s f = Made M s → True-fate s f
+  Classified s f = Made M s → TrueFate s f

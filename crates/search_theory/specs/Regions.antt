@@ -72,23 +72,23 @@ module _ {S R : Type 0} (M : ShapeModel S) (K : RuleModel R) where
   tighten r i s = cond (is_open (M.extent s)) (cut_if_any M s (K.proposed r (read M s) i)) s
 
   -- the cuts of one rule whose numbers are listed
-  abbrev pub by-cuts : R → List ℕ → S → S
-  by-cuts r [] s = s
-  by-cuts r (i ∷ is) s = by-cuts r is (tighten r i s)
+  abbrev pub by_cuts : R → List ℕ → S → S
+  by_cuts r [] s = s
+  by_cuts r (i ∷ is) s = by_cuts r is (tighten r i s)
 
   -- one round: each rule in order, its cuts 0, 1 and 2
-  abbrev pub by-rules : List R → S → S
-  by-rules [] s = s
-  by-rules (r ∷ rs) s = by-rules rs (by-cuts r (range_with_len 0 3) s)
+  abbrev pub by_rules : List R → S → S
+  by_rules [] s = s
+  by_rules (r ∷ rs) s = by_rules rs (by_cuts r (range_with_len 0 3) s)
 
   -- up to so many rounds, until one alters no limit
-  abbrev pub by-rounds : ℕ → List R → S → S
-  by-rounds zero rs s = s
-  by-rounds (suc k) rs s = cond (same_limits (read M s) (read M (by-rules rs s))) (by-rules rs s) (by-rounds k rs (by-rules rs s))
+  abbrev pub by_rounds : ℕ → List R → S → S
+  by_rounds zero rs s = s
+  by_rounds (suc k) rs s = cond (same_limits (read M s) (read M (by_rules rs s))) (by_rules rs s) (by_rounds k rs (by_rules rs s))
 
   -- shut, so that no proof computes the rounds
   unfoldable pub refine : List R → S → S
-  refine rs s = by-rounds 8 rs s
+  refine rs s = by_rounds 8 rs s
 
   -- what becomes of a refined region
   abbrev pub classify : List R → S → Fate

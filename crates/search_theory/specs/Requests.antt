@@ -9,7 +9,7 @@ use Rattle.search_theory.specs.declared.reply.Reply.{Reply}
 use Rattle.search_theory.specs.declared.reply.Reply.TheVariants.{Accepted, Ran, LimitIs}
 use Rattle.search_theory.specs.declared.request.Request.{Request}
 use Rattle.search_theory.specs.declared.request.Request.TheVariants.{State, Mark, Back, Keep, Begin, Run, Leave, Limit}
-use Rattle.search_theory.specs.Calls.{state-call, mark-call, back-call, keep-call, begin-call, run_call, leave-call, limit-call}
+use Rattle.search_theory.specs.Calls.{state_call, mark_call, back_call, keep_call, begin_call, run_call, leave_call, limit_call}
 use Rattle.search_theory.specs.Solving.{Solving, Left}
 
 -- the solver and the slices that calls are lent
@@ -43,11 +43,11 @@ accepted u = Accepted
 module _ {S R : Type 0} (M : ShapeModel S) (K : RuleModel R) where
   -- each call on the slices that it uses; every other slice stays as it is
   abbrev pub answer : World S R → List (Region S) → Request R → Answered S R
-  answer w out (State r) = let l = state-call M K w.solver w.rules r in answered accepted l l.slices w.checkpoints w.stack out
-  answer w out Mark = let l = mark-call w.solver w.checkpoints in answered accepted l w.rules l.slices w.stack out
-  answer w out Back = answered accepted (back-call w.solver w.checkpoints) w.rules w.checkpoints w.stack out
-  answer w out Keep = answered accepted (keep-call w.solver) w.rules w.checkpoints w.stack out
-  answer w out Begin = let l = begin-call w.solver w.stack in answered accepted l w.rules w.checkpoints l.slices out
+  answer w out (State r) = let l = state_call M K w.solver w.rules r in answered accepted l l.slices w.checkpoints w.stack out
+  answer w out Mark = let l = mark_call w.solver w.checkpoints in answered accepted l w.rules l.slices w.stack out
+  answer w out Back = answered accepted (back_call w.solver w.checkpoints) w.rules w.checkpoints w.stack out
+  answer w out Keep = answered accepted (keep_call w.solver) w.rules w.checkpoints w.stack out
+  answer w out Begin = let l = begin_call w.solver w.stack in answered accepted l w.rules w.checkpoints l.slices out
   answer w out (Run b) = let l = run_call M K w.solver w.rules w.stack out b in answered Ran l w.rules w.checkpoints l.slices.0 l.slices.1
-  answer w out Leave = answered accepted (leave-call w.solver) w.rules w.checkpoints w.stack out
-  answer w out (Limit p q) = record { reply = replied LimitIs (limit-call M w.solver p q); world = w; out = out }
+  answer w out Leave = answered accepted (leave_call w.solver) w.rules w.checkpoints w.stack out
+  answer w out (Limit p q) = record { reply = replied LimitIs (limit_call M w.solver p q); world = w; out = out }

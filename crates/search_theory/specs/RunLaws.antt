@@ -52,15 +52,15 @@ given r = take r.report.count r.out_after
 
 module _ {S R : Type 0} (M : ShapeModel S) (K : RuleModel R) where
   -- the last waiting region will have this fate
-  abbrev pub Next-is : List R → List S → Fate → Type 0
-  Next-is rs ws f = (s : S) × ((under : List S) × (ws ≡ under ++ s ∷ [])) × (classify M K rs (refine M K rs s) ≡ f)
+  abbrev pub NextIs : List R → List S → Fate → Type 0
+  NextIs rs ws f = (s : S) × ((under : List S) × (ws ≡ under ++ s ∷ [])) × (classify M K rs (refine M K rs s) ≡ f)
 
   -- when a run ends how
   pub record Outcomes (r : Runs S R) : Type 0 where
     pub done : (r.report.outcome ≡ Done) ↔ (r.waiting_after ≡ [])
     pub spent : (r.report.outcome ≡ Spent) ↔ ((r.waiting_after ≢ []) × (r.report.steps ≡ r.budget))
-    pub list_full : (r.report.outcome ≡ ListFull) ↔ ((r.report.steps < r.budget) × ((x : Point) × Next-is r.rules r.waiting_after (HandedOut x)) × (r.report.count ≡ length r.out))
-    pub stack_full : (r.report.outcome ≡ StackFull) ↔ ((r.report.steps < r.budget) × Next-is r.rules r.waiting_after Split × (length r.waiting_after ≡ length r.stack))
+    pub list_full : (r.report.outcome ≡ ListFull) ↔ ((r.report.steps < r.budget) × ((x : Point) × NextIs r.rules r.waiting_after (HandedOut x)) × (r.report.count ≡ length r.out))
+    pub stack_full : (r.report.outcome ≡ StackFull) ↔ ((r.report.steps < r.budget) × NextIs r.rules r.waiting_after Split × (length r.waiting_after ≡ length r.stack))
 
   -- what a run does: as many steps as it says, from the last waiting region on, and nothing past what it hands out is written
   pub record Moves (r : Runs S R) : Type 0 where

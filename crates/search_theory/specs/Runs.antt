@@ -55,15 +55,15 @@ module _ {S R : Type 0} (M : ShapeModel S) (K : RuleModel R) where
   turn w s (HandedOut x) = cond (nat_lt w.count (length w.out)) (Ok (handed_out w (record { shape = s; point = x }))) (Err ListFull)
   turn w s Split = cond (nat_lt w.waiting (length w.stack)) (Ok (split_in w (M.lower s) (M.upper s))) (Err StackFull)
 
-  abbrev pub take-up : List R → Work S → Option S → Result (Work S) Outcome
-  take-up rs w None = Err Done
-  take-up rs w (Some s) = turn w (refine M K rs s) (classify M K rs (refine M K rs s))
+  abbrev pub take_up : List R → Work S → Option S → Result (Work S) Outcome
+  take_up rs w None = Err Done
+  take_up rs w (Some s) = turn w (refine M K rs s) (classify M K rs (refine M K rs s))
 
   -- a step takes the last waiting region; one that lacks a place is not made
   abbrev pub step : List R → Work S → Result (Work S) Outcome
-  step rs w = take-up rs w (slice_get w.stack (w.waiting - 1))
+  step rs w = take_up rs w (slice_get w.stack (w.waiting - 1))
 
   -- with so many steps left and i made: done if nothing waits, else spent if no step is left, else the next step
-  abbrev pub run-from : List R → ℕ → ℕ → Work S → Ended S
-  run-from rs zero i w = cond (w.waiting == 0) (ended Done i w) (ended Spent i w)
-  run-from rs (suc b) i w = cond (w.waiting == 0) (ended Done i w) (go_on (step rs w) (λ o. ended o i w) (run-from rs b (i + 1)))
+  abbrev pub run_from : List R → ℕ → ℕ → Work S → Ended S
+  run_from rs zero i w = cond (w.waiting == 0) (ended Done i w) (ended Spent i w)
+  run_from rs (suc b) i w = cond (w.waiting == 0) (ended Done i w) (go_on (step rs w) (λ o. ended o i w) (run_from rs b (i + 1)))

@@ -22,11 +22,11 @@ placed M s Split ws hs = held (M.lower s ∷ M.upper s ∷ ws) hs
 
 module _ {S R : Type 0} (M : ShapeModel S) (K : RuleModel R) (rs : List R) where
   -- one step takes the next waiting region and refines it
-  abbrev pub walk-one : List S → List (Region S) → Held S
-  walk-one [] hs = held [] hs
-  walk-one (s ∷ ws) hs = placed M (refine M K rs s) (classify M K rs (refine M K rs s)) ws hs
+  abbrev pub walk_one : List S → List (Region S) → Held S
+  walk_one [] hs = held [] hs
+  walk_one (s ∷ ws) hs = placed M (refine M K rs s) (classify M K rs (refine M K rs s)) ws hs
 
   -- so many steps
   abbrev pub walk : ℕ → Held S → Held S
   walk zero h = h
-  walk (suc k) h = walk k (walk-one h.waiting h.handed)
+  walk (suc k) h = walk k (walk_one h.waiting h.handed)

@@ -4,7 +4,7 @@ ghost use Rattle.octagon.specs.Octagons.{octagon_model};
 ghost use Rattle.search.specs.Views.{view_if_any, world_of, answered_by};
 ghost use Rattle.search_theory.specs.Requests.{answer};
 ghost use Rattle.search_theory.specs.Solving.{open_call};
-ghost use Rattle.session.specs.Promised.{Promised-whole};
+ghost use Rattle.session.specs.Promised.{PromisedWhole};
 
 use interface::fault::SolverFault;
 use interface::home::Home;
@@ -33,7 +33,7 @@ pub fn call<R: Rule>(
     request: Request<R>,
 ) -> Result<Reply, SolverFault>
     ensures answers { answered_by result (world_of solver.new rules.new checkpoints.new stack.new) out.new ≡ answer octagon_model model (world_of solver.old rules.old checkpoints.old stack.old) out.old request }
-    ensures promise { Promised-whole octagon_model model (world_of solver.old rules.old checkpoints.old stack.old) request (answered_by result (world_of solver.new rules.new checkpoints.new stack.new) out.new) }
+    ensures promise { PromisedWhole octagon_model model (world_of solver.old rules.old checkpoints.old stack.old) request (answered_by result (world_of solver.new rules.new checkpoints.new stack.new) out.new) }
 {
     solver.call(rules, checkpoints, stack, out, request)
 }

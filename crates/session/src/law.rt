@@ -3,11 +3,11 @@ ghost use Rattle.intervals.specs.Model.{box_model};
 ghost use Rattle.octagon.specs.Octagons.{octagon_model};
 ghost use Rattle.rules.specs.Any.{any_model};
 ghost use Rattle.search_theory.specs.Promise.{Promise};
-ghost use Rattle.session.specs.Promised.{Promise-whole};
+ghost use Rattle.session.specs.Promised.{PromiseWhole};
 
 // Everything that is promised, limits and refusals among it, at the octagon.
 pub fn octagon_keeps_the_promise()
-    ensures { Promise-whole octagon_model any_model }
+    ensures { PromiseWhole octagon_model any_model }
 {}
 
 // At the interval box everything that is promised of every shape; it is not exact, so nothing of limits that are reached.

@@ -20,12 +20,12 @@ use Rattle.search_theory.specs.declared.region.Region.{Region}
 use Rattle.search_theory.specs.declared.reply.Reply.TheVariants.{Accepted, Ran}
 use Rattle.search_theory.specs.declared.request.Request.{Request}
 use Rattle.search_theory.specs.declared.request.Request.TheVariants.{State, Begin, Run}
-use Rattle.search_theory.specs.Calls.{state-grounds, begin-grounds, run_grounds, record_grounds, stated, run_call, at_hand, after_run}
+use Rattle.search_theory.specs.Calls.{state_grounds, begin_grounds, run_grounds, record_grounds, stated, run_call, at_hand, after_run}
 use Rattle.search_theory.specs.Ledgers.{Ledger, History, noted, heard, opened_ledger}
 use Rattle.search_theory.specs.Ledgers.History.{start, call}
 use Rattle.search_theory.specs.Requests.{World, Answered, whole, answer, replied, accepted}
-use Rattle.search_theory.specs.Promise.{Called, called, Kept, Run-with}
-use Rattle.search_theory.specs.Runs.{Ended, run-from, report_of}
+use Rattle.search_theory.specs.Promise.{Called, called, Kept, RunWith}
+use Rattle.search_theory.specs.Runs.{Ended, run_from, report_of}
 use Rattle.search_theory.specs.Standing.{shape_of, how_many, shapes_of}
 use Rattle.search_theory.specs.Solving.{Solving, Left, left, refused, decided, is_stating, is_searching}
 use Rattle.search_theory.proofs.Fronts.{front_fits}
@@ -34,7 +34,7 @@ use Rattle.search_theory.proofs.Invariant.{Inv}
 use Rattle.search_theory.proofs.Promise.{promised}
 use Rattle.search_theory.proofs.RunLaws.{run_laws}
 use Rattle.search_theory.proofs.Standing.{shape_n}
-use Rattle.solving.specs.Solving.{Slices, after-calls, fresh, stated-all, begun, solved, Solvable, TrueOf, Solves-truly, Setting}
+use Rattle.solving.specs.Solving.{Slices, after_calls, fresh, stated_all, begun, solved, Solvable, TrueOf, SolvesTruly, Setting}
 
 -- no ground holds, in each of the three calls
 state_clear : (a b d : Bool) (c : Result (Unit {0}) RecordFault) → a ≡ false → b ≡ false → c ≡ Ok tt → d ≡ false → first_fault ((a, Phase) ∷ (b, Short) ∷ (record_grounds c ++ (d, Rules) ∷ [])) ≡ Ok tt
@@ -76,7 +76,7 @@ module _ {S R : Type 0} {M : ShapeModel S} {K : RuleModel R} (L : ShapeLaws M) (
         let count = inv.ties.of_rules.0 ∙ ap length y.of_standing in
         let phase = inv.ties.of_phase ∙ y.of_phase in
         let n = ap M.n inv.ties.of_shape ∙ shape_n L J l.home inv.passes l.standing ∙ ap (λ a. a.n) y.of_home in
-        let clear : first_fault (state-grounds M K s w.rules r) ≡ Ok tt = state_clear _ _ _ _ (ap (λ p. not (is_stating p)) phase) (le-ltb _ _ (omega (arith, count, y.of_rules))) (ap (λ k. K.check k r) n ∙ check) (place s.rules (length w.rules) 32 (omega (arith, count, y.of_rules)) (omega (arith, count))) in
+        let clear : first_fault (state_grounds M K s w.rules r) ≡ Ok tt = state_clear _ _ _ _ (ap (λ p. not (is_stating p)) phase) (le-ltb _ _ (omega (arith, count, y.of_rules))) (ap (λ k. K.check k r) n ∙ check) (place s.rules (length w.rules) 32 (omega (arith, count, y.of_rules)) (omega (arith, count))) in
         let reply : (answer M K w m.out (State r)).reply ≡ Ok Accepted = ap (λ g. replied accepted (decided g (refused s w.rules) (left (Ok tt) (stated M K s r) (set w.rules s.rules r))).reply) clear in
         let rules : (answer M K w m.out (State r)).world.rules ≡ set w.rules s.rules r = ap (λ g. (decided {X = Left S (Unit {0}) (List R)} g (refused s w.rules) (left (Ok tt) (stated M K s r) (set w.rules s.rules r))).slices) clear in (
           heard M K l (length w.stack) (State r) Accepted,
@@ -91,7 +91,7 @@ module _ {S R : Type 0} {M : ShapeModel S} {K : RuleModel R} (L : ShapeLaws M) (
         )
 
     -- every rule stands
-    all_stated : (rs : List R) (l : Ledger S R) (w : World S R) (done all : List R) → Ready l w done → done ++ rs ≡ all → All (λ r. K.check h.n r ≡ Ok tt) rs → length done + length rs ≤ 32 → length done + length rs ≤ length m.rules → (l' : Ledger S R) × Ready l' (after-calls M K w m.out (map State rs)) all
+    all_stated : (rs : List R) (l : Ledger S R) (w : World S R) (done all : List R) → Ready l w done → done ++ rs ≡ all → All (λ r. K.check h.n r ≡ Ok tt) rs → length done + length rs ≤ 32 → length done + length rs ≤ length m.rules → (l' : Ledger S R) × Ready l' (after_calls M K w m.out (map State rs)) all
     all_stated [] l w done all y e checks few places =
         (l, record { history = y.history; of_home = y.of_home; of_standing = y.of_standing ∙ sym (append-nil done) ∙ e; of_phase = y.of_phase; of_rules = y.of_rules; of_stack = y.of_stack })
     all_stated (r ∷ rs) l w done all y e checks few places =
@@ -116,7 +116,7 @@ module _ {S R : Type 0} {M : ShapeModel S} {K : RuleModel R} (L : ShapeLaws M) (
         let s = w.solver in
         let phase = inv.ties.of_phase ∙ y.of_phase in
         let end : Left S (Unit {0}) (List S) = left (Ok tt) (record { shape = s.shape; rules = s.rules; marks = s.marks; waiting = 1; phase = Searching; found = false }) (set w.stack 0 s.shape) in
-        let clear : first_fault (begin-grounds s w.stack) ≡ Ok tt = begin_clear _ _ (ap (λ p. not (is_stating p)) phase) (ne_eqb _ _ (λ e. omega (arith, e, y.of_stack))) in
+        let clear : first_fault (begin_grounds s w.stack) ≡ Ok tt = begin_clear _ _ (ap (λ p. not (is_stating p)) phase) (ne_eqb _ _ (λ e. omega (arith, e, y.of_stack))) in
         let reply : (answer M K w m.out Begin).reply ≡ Ok Accepted = ap (λ g. replied accepted (decided g (refused s w.stack) end).reply) clear in
         let stack : (answer M K w m.out Begin).world.stack ≡ set w.stack 0 s.shape = ap (λ g. (decided {X = Left S (Unit {0}) (List S)} g (refused s w.stack) end).slices) clear in (
           heard M K l (length w.stack) Begin Accepted,
@@ -141,7 +141,7 @@ module _ {S R : Type 0} {M : ShapeModel S} {K : RuleModel R} (L : ShapeLaws M) (
       a = answer M K w m.out (Run budget)
 
       abbrev ending : Ended S
-      ending = run-from M K (take w.solver.rules w.rules) budget 0 (at_hand w.solver w.stack m.out)
+      ending = run_from M K (take w.solver.rules w.rules) budget 0 (at_hand w.solver w.stack m.out)
 
       inv : Inv M K l w
       inv = inv_history L J y.history
@@ -173,7 +173,7 @@ module _ {S R : Type 0} {M : ShapeModel S} {K : RuleModel R} (L : ShapeLaws M) (
       searching : c.after.search.phase ≡ Searching
       searching = ap (λ b. b.search.phase) noted_is ∙ y.of_phase
 
-      with_report : Run-with c (report_of ending)
+      with_report : RunWith c (report_of ending)
       with_report = ((budget, refl), reply)
 
       is_handed : c.after.search.regions.handed ≡ take ending.work.count a.out
@@ -217,13 +217,13 @@ module _ {S R : Type 0} {M : ShapeModel S} {K : RuleModel R} (L : ShapeLaws M) (
           (ap (λ b. b.search.ample) noted_is ∙ and_from l.search.ample (leb l.search.need (length w.stack)) y.of_ample (le-leb _ _ (omega (arith, y.of_need, y.of_stack))))
           (report_of ending) with_report
 
-  pub solves_truly : Solves-truly M K
+  pub solves_truly : SolvesTruly M K
   solves_truly h m rs y budget =
       let fresh-ready : Ready h m (opened_ledger h) (fresh M K h m) [] = record { history = start h y.home_passes m.rules m.checkpoints m.stack; of_home = refl; of_standing = refl; of_phase = refl; of_rules = refl; of_stack = refl } in
       let stated = all_stated h m rs (opened_ledger h) (fresh M K h m) [] rs fresh-ready refl y.rules_pass (omega (arith, y.few)) (omega (arith, y.places)) in
-      let begun = search_begun h m stated.0 (stated-all M K h m rs) rs stated.1 y.some_stack in
+      let begun = search_begun h m stated.0 (stated_all M K h m rs) rs stated.1 y.some_stack in
       let l = begun.0 in
-      let w = (answer M K (stated-all M K h m rs) m.out Begin).world in (
+      let w = (answer M K (stated_all M K h m rs) m.out Begin).world in (
         report_of (ending h m l w rs begun.1 budget),
         reply h m l w rs begun.1 budget,
         record {

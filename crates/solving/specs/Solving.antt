@@ -41,20 +41,20 @@ pub record TrueOf {S R : Type 0} (M : ShapeModel S) (K : RuleModel R) (h : Home)
 
 module _ {S R : Type 0} (M : ShapeModel S) (K : RuleModel R) where
   -- the world after these calls, each lent the whole slices
-  abbrev pub after-calls : World S R → List (Region S) → List (Request R) → World S R
-  after-calls w out [] = w
-  after-calls w out (q ∷ qs) = after-calls (answer M K w out q).world out qs
+  abbrev pub after_calls : World S R → List (Region S) → List (Request R) → World S R
+  after_calls w out [] = w
+  after_calls w out (q ∷ qs) = after_calls (answer M K w out q).world out qs
 
   abbrev pub fresh : Home → Slices S R → World S R
   fresh h m = record { solver = opened M h; rules = m.rules; checkpoints = m.checkpoints; stack = m.stack }
 
   -- every rule stands
-  abbrev pub stated-all : Home → Slices S R → List R → World S R
-  stated-all h m rs = after-calls (fresh h m) m.out (map State rs)
+  abbrev pub stated_all : Home → Slices S R → List R → World S R
+  stated_all h m rs = after_calls (fresh h m) m.out (map State rs)
 
   -- then the search begins, and runs once
   abbrev pub begun : Home → Slices S R → List R → World S R
-  begun h m rs = (answer M K (stated-all h m rs) m.out Begin).world
+  begun h m rs = (answer M K (stated_all h m rs) m.out Begin).world
 
   abbrev pub solved : Home → Slices S R → List R → ℕ → Answered S R
   solved h m rs budget = answer M K (begun h m rs) m.out (Run budget)
@@ -68,5 +68,5 @@ module _ {S R : Type 0} (M : ShapeModel S) (K : RuleModel R) where
     pub some_stack : 0 < length m.stack
 
   -- the run is accepted, its report is true, and what it handed out had its places in the out slice
-  abbrev pub Solves-truly : Type 0
-  Solves-truly = (h : Home) (m : Slices S R) (rs : List R) → Solvable h m rs → (budget : ℕ) → (p : Report) × ((solved h m rs budget).reply ≡ Ok (Ran p)) × TrueOf M K h rs (length m.stack) p (take p.count (solved h m rs budget).out) × (length (take p.count (solved h m rs budget).out) ≤ length m.out)
+  abbrev pub SolvesTruly : Type 0
+  SolvesTruly = (h : Home) (m : Slices S R) (rs : List R) → Solvable h m rs → (budget : ℕ) → (p : Report) × ((solved h m rs budget).reply ≡ Ok (Ran p)) × TrueOf M K h rs (length m.stack) p (take p.count (solved h m rs budget).out) × (length (take p.count (solved h m rs budget).out) ≤ length m.out)
