@@ -2,7 +2,7 @@
 ghost use Rattle.std.specs.Prelude.{◌≡◌, Ok};
 ghost use Rattle.interface.specs.Grounds.{first_fault};
 ghost use Rattle.interface.specs.declared.fault.FrameFault.TheVariants.{Text};
-ghost use Rattle.interface.specs.declared.fault.RecordFault.TheVariants.{Frame as In-record};
+ghost use Rattle.interface.specs.declared.fault.RecordFault.TheVariants.{Frame as InRecord};
 ghost use Rattle.wire.specs.Readers.{left_of, advanced};
 ghost use Rattle.wire.specs.Text.{size_grounds};
 ghost use Rattle.problem.specs.Reading.{after, home_line, rule_line, stated_line, homed, ruled, size_check, first_home};
@@ -81,7 +81,7 @@ fn frame_size(text: &[u8]) -> Result<(), FrameFault>
 }
 
 fn record_size(text: &[u8]) -> Result<(), RecordFault>
-    ensures { result ≡ after (after (first_fault (size_grounds text.now)) Text Ok) In-record Ok }
+    ensures { result ≡ after (after (first_fault (size_grounds text.now)) Text Ok) InRecord Ok }
 {
     frame_size(text)?;
     Ok(())

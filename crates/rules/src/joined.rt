@@ -16,9 +16,9 @@ pub enum Joined<A, B> {
 }
 
 impl<A: Rule, B: Rule> Rule for Joined<A, B> {
-    ghost model = { joined A.Rule.model B.Rule.model };
+    ghost model = { joined A.model B.model };
 
-    ghost laws = { joined_laws _ _ A.Rule.laws B.Rule.laws };
+    ghost laws = { joined_laws _ _ A.laws B.laws };
 
     fn check(&self, n: u8) -> Result<(), RecordFault> {
         match *self {

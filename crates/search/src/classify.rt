@@ -29,7 +29,7 @@ fn together(a: Verdict, b: Verdict) -> Verdict
 
 // What all rules say of the points within a reading.
 fn judge_all<R: Rule>(rules: &[R], reading: &Reading) -> Verdict
-    ensures { result ≡ judged model rules.now reading.now }
+    ensures { result ≡ judged R.model rules.now reading.now }
 {
     let mut verdict = Verdict::All;
     for rule in rules {
@@ -55,7 +55,7 @@ fn decide(verdict: Verdict, offered: Option<Point>) -> Fate
 }
 
 fn fate<S: Shape, R: Rule>(rules: &[R], shape: &S) -> Fate
-    ensures { result ≡ classify S.Shape.model R.Rule.model rules.now shape.now }
+    ensures { result ≡ classify S.model R.model rules.now shape.now }
 {
     if void(shape) {
         return Fate::Dropped;
@@ -66,8 +66,8 @@ fn fate<S: Shape, R: Rule>(rules: &[R], shape: &S) -> Fate
 
 // Dropped where no point of the region meets the rules, handed out where every one does and one is offered, else split.
 pub fn classify<S: Shape, R: Rule>(rules: &[R], shape: &S) -> Fate
-    ensures value { result ≡ classify S.Shape.model R.Rule.model rules.now shape.now }
-    ensures truth { Classified S.Shape.model R.Rule.model rules.now shape.now result }
+    ensures value { result ≡ classify S.model R.model rules.now shape.now }
+    ensures truth { Classified S.model R.model rules.now shape.now result }
 {
     fate(rules, shape)
 }

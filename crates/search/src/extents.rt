@@ -6,7 +6,7 @@ use interface::extent::Extent;
 use interface::shape::Shape;
 
 pub(crate) fn void<S: Shape>(shape: &S) -> bool
-    ensures { result ≡ is_void (model.extent shape.now) }
+    ensures { result ≡ is_void (S.model.extent shape.now) }
 {
     match shape.extent() {
         Extent::Void => true,
@@ -15,7 +15,7 @@ pub(crate) fn void<S: Shape>(shape: &S) -> bool
 }
 
 pub(crate) fn open<S: Shape>(shape: &S) -> bool
-    ensures { result ≡ is_open (model.extent shape.now) }
+    ensures { result ≡ is_open (S.model.extent shape.now) }
 {
     match shape.extent() {
         Extent::Void | Extent::Lone => false,

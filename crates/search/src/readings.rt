@@ -6,7 +6,7 @@ use interface::reading::Reading;
 use interface::shape::Shape;
 
 pub(crate) fn take_reading<S: Shape>(shape: &S) -> Reading
-    ensures { result ≡ read model shape.now }
+    ensures { result ≡ read S.model shape.now }
 {
     shape.reading()
 }

@@ -11,9 +11,9 @@ use interface::shape::Shape;
 
 // Applies cut i of a rule to an open region. The reading is taken again only where a cut was applied.
 fn apply<S: Shape, R: Rule>(rule: &R, i: u8, shape: &mut S, reading: &mut Reading)
-    requires { (reading.old ≡ read S.Shape.model shape.old) × (is_open (S.Shape.model.extent shape.old) ≡ true) }
-    ensures after { shape.new ≡ tighten S.Shape.model R.Rule.model rule.now i shape.old }
-    ensures fresh { reading.new ≡ read S.Shape.model shape.new }
+    requires { (reading.old ≡ read S.model shape.old) × (is_open (S.model.extent shape.old) ≡ true) }
+    ensures after { shape.new ≡ tighten S.model R.model rule.now i shape.old }
+    ensures fresh { reading.new ≡ read S.model shape.new }
 {
     if let Some(cut) = rule.proposed(reading, i) {
         shape.cut(cut);
@@ -22,7 +22,7 @@ fn apply<S: Shape, R: Rule>(rule: &R, i: u8, shape: &mut S, reading: &mut Readin
 }
 
 fn rounds<S: Shape, R: Rule>(rules: &[R], shape: S) -> S
-    ensures { result ≡ refine S.Shape.model R.Rule.model rules.now shape }
+    ensures { result ≡ refine S.model R.model rules.now shape }
 {
     let mut region = shape;
     let mut reading = take_reading(&region);
@@ -46,8 +46,8 @@ fn rounds<S: Shape, R: Rule>(rules: &[R], shape: S) -> S
 // Up to eight rounds over the rules and their three cuts, until one alters no limit or the region is no longer open:
 // every held point that meets the rules stays, and none is added.
 pub fn refine<S: Shape, R: Rule>(rules: &[R], shape: S) -> S
-    ensures value { result ≡ refine S.Shape.model R.Rule.model rules.now shape }
-    ensures narrows { Refined S.Shape.model R.Rule.model rules.now shape result }
+    ensures value { result ≡ refine S.model R.model rules.now shape }
+    ensures narrows { Refined S.model R.model rules.now shape result }
 {
     rounds(rules, shape)
 }

@@ -40,7 +40,7 @@ fn stating(phase: Phase) -> bool
 
 impl<S: Shape> Solver<S> {
     fn open_any(home: &Home) -> Result<Solver<S>, SolverFault>
-        ensures { view_if_any result ≡ open_call model home.now }
+        ensures { view_if_any result ≡ open_call S.model home.now }
     {
         home.check()?;
         Ok(Solver {
@@ -55,8 +55,8 @@ impl<S: Shape> Solver<S> {
 
     // A solver on the shape of a home, which holds exactly the home's points, with no rule; refused with the home's own fault.
     pub fn open(home: &Home) -> Result<Solver<S>, SolverFault>
-        ensures answers { view_if_any result ≡ open_call model home.now }
-        ensures opens { Opens model home.now (view_if_any result) }
+        ensures answers { view_if_any result ≡ open_call S.model home.now }
+        ensures opens { Opens S.model home.now (view_if_any result) }
     {
         Solver::open_any(home)
     }

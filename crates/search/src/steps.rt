@@ -28,7 +28,7 @@ fn step<S: Shape, R: Rule>(
     out: &mut [Region<S>],
 ) -> Result<(), Outcome>
     requires { (0 < progress.old.waiting) × (progress.old.waiting ≤ length stack.old) }
-    ensures after { (result, work_of progress.new stack.new out.new) ≡ stepped (work_of progress.old stack.old out.old) (step S.Shape.model R.Rule.model rules.now (work_of progress.old stack.old out.old)) }
+    ensures after { (result, work_of progress.new stack.new out.new) ≡ stepped (work_of progress.old stack.old out.old) (step S.model R.model rules.now (work_of progress.old stack.old out.old)) }
     ensures bound { progress.new.waiting ≤ length stack.new }
 {
     let shape = refine(rules, item(stack, progress.waiting - 1));
@@ -68,7 +68,7 @@ fn turn<S: Shape, R: Rule>(
     budget: u32,
 ) -> Result<(), Outcome>
     requires { (progress.old.waiting ≤ length stack.old) × (steps ≤ budget) }
-    ensures after { (result, work_of progress.new stack.new out.new) ≡ stepped (work_of progress.old stack.old out.old) (turned S.Shape.model R.Rule.model rules.now steps budget (work_of progress.old stack.old out.old)) }
+    ensures after { (result, work_of progress.new stack.new out.new) ≡ stepped (work_of progress.old stack.old out.old) (turned S.model R.model rules.now steps budget (work_of progress.old stack.old out.old)) }
     ensures bound { progress.new.waiting ≤ length stack.new }
     ensures below { elim result [ Ok u ↦ steps < budget | Err o ↦ Unit {0} ] }
 {
@@ -90,7 +90,7 @@ pub(crate) fn run_on<S: Shape, R: Rule>(
     budget: u32,
 ) -> (Outcome, u32)
     requires { progress.old.waiting ≤ length stack.old }
-    ensures { ended result.0 result.1 (work_of progress.new stack.new out.new) ≡ run_from S.Shape.model R.Rule.model rules.now budget 0 (work_of progress.old stack.old out.old) }
+    ensures { ended result.0 result.1 (work_of progress.new stack.new out.new) ≡ run_from S.model R.model rules.now budget 0 (work_of progress.old stack.old out.old) }
 {
     let mut steps = 0u32;
     'turns: loop {

@@ -6,5 +6,5 @@ use interface::shape::Shape;
 
 // After any call on any history of calls, refused ones among them, all statements of the promise hold.
 pub fn every_sequence_of_calls<S: Shape, R: Rule>(_shape: &S, _rule: &R)
-    ensures { Promise S.Shape.model R.Rule.model }
+    ensures { Promise S.model R.model }
 {}

@@ -32,8 +32,8 @@ pub fn call<R: Rule>(
     out: &mut [Region<Octagon>],
     request: Request<R>,
 ) -> Result<Reply, SolverFault>
-    ensures answers { answered_by result (world_of solver.new rules.new checkpoints.new stack.new) out.new ≡ answer octagon_model model (world_of solver.old rules.old checkpoints.old stack.old) out.old request }
-    ensures promise { PromisedWhole octagon_model model (world_of solver.old rules.old checkpoints.old stack.old) request (answered_by result (world_of solver.new rules.new checkpoints.new stack.new) out.new) }
+    ensures answers { answered_by result (world_of solver.new rules.new checkpoints.new stack.new) out.new ≡ answer octagon_model R.model (world_of solver.old rules.old checkpoints.old stack.old) out.old request }
+    ensures promise { PromisedWhole octagon_model R.model (world_of solver.old rules.old checkpoints.old stack.old) request (answered_by result (world_of solver.new rules.new checkpoints.new stack.new) out.new) }
 {
     solver.call(rules, checkpoints, stack, out, request)
 }

@@ -6,5 +6,5 @@ use interface::shape::Shape;
 
 // A home and rules that pass their checks, at most 32, with room for them: what is handed out is true.
 pub fn solves_truly<S: Shape, R: Rule>(_shape: &S, _rule: &R)
-    ensures { SolvesTruly S.Shape.model R.Rule.model }
+    ensures { SolvesTruly S.model R.model }
 {}

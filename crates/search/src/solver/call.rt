@@ -22,7 +22,7 @@ impl<S: Shape> Solver<S> {
         out: &mut [Region<S>],
         request: Request<R>,
     ) -> Result<Reply, SolverFault>
-        ensures { answered_by result (world_of self.new rules.new checkpoints.new stack.new) out.new ≡ answer S.Shape.model R.Rule.model (world_of self.old rules.old checkpoints.old stack.old) out.old request }
+        ensures { answered_by result (world_of self.new rules.new checkpoints.new stack.new) out.new ≡ answer S.model R.model (world_of self.old rules.old checkpoints.old stack.old) out.old request }
     {
         match request {
             Request::State(rule) => plain(self.state_any(rules, rule)),
@@ -45,8 +45,8 @@ impl<S: Shape> Solver<S> {
         out: &mut [Region<S>],
         request: Request<R>,
     ) -> Result<Reply, SolverFault>
-        ensures answers { answered_by result (world_of self.new rules.new checkpoints.new stack.new) out.new ≡ answer S.Shape.model R.Rule.model (world_of self.old rules.old checkpoints.old stack.old) out.old request }
-        ensures promise { Promised S.Shape.model R.Rule.model (world_of self.old rules.old checkpoints.old stack.old) request (answered_by result (world_of self.new rules.new checkpoints.new stack.new) out.new) }
+        ensures answers { answered_by result (world_of self.new rules.new checkpoints.new stack.new) out.new ≡ answer S.model R.model (world_of self.old rules.old checkpoints.old stack.old) out.old request }
+        ensures promise { Promised S.model R.model (world_of self.old rules.old checkpoints.old stack.old) request (answered_by result (world_of self.new rules.new checkpoints.new stack.new) out.new) }
     {
         self.call_any(rules, checkpoints, stack, out, request)
     }

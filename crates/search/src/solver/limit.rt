@@ -12,7 +12,7 @@ use interface::shape::Shape;
 
 impl<S: Shape> Solver<S> {
     pub(super) fn limit_any(&self, p: u8, q: u8) -> Result<i32, SolverFault>
-        ensures { result ≡ limit_call model (view self.now) p q }
+        ensures { result ≡ limit_call S.model (view self.now) p q }
     {
         let nodes = 2 * self.shape.n() as usize;
         if p as usize >= nodes {
@@ -32,8 +32,8 @@ impl<S: Shape> Solver<S> {
 
     // The limit of the solver's own shape at two nodes on the line that are not opposite: no held point is above it.
     pub fn limit(&self, p: u8, q: u8) -> Result<i32, SolverFault>
-        ensures answers { result ≡ limit_call model (view self.now) p q }
-        ensures bounds { LimitBounds model (view self.now) p q result }
+        ensures answers { result ≡ limit_call S.model (view self.now) p q }
+        ensures bounds { LimitBounds S.model (view self.now) p q result }
     {
         self.limit_any(p, q)
     }

@@ -22,7 +22,7 @@ impl<S: Shape> Solver<S> {
         out: &mut [Region<S>],
         budget: u32,
     ) -> Result<Report, SolverFault>
-        ensures { left result (view self.new) (stack.new, out.new) ≡ run_call S.Shape.model R.Rule.model (view self.old) rules.now stack.old out.old budget }
+        ensures { left result (view self.new) (stack.new, out.new) ≡ run_call S.model R.model (view self.old) rules.now stack.old out.old budget }
     {
         if stating(self.phase) {
             return Err(SolverFault::Phase);
@@ -54,9 +54,9 @@ impl<S: Shape> Solver<S> {
         out: &mut [Region<S>],
         budget: u32,
     ) -> Result<Report, SolverFault>
-        ensures answers { left result (view self.new) (stack.new, out.new) ≡ run_call S.Shape.model R.Rule.model (view self.old) rules.now stack.old out.old budget }
-        ensures laws { RunLaws S.Shape.model R.Rule.model (view self.old) rules.now stack.old out.old budget (left result (view self.new) (stack.new, out.new)) }
-        ensures portions { InPortions S.Shape.model R.Rule.model (view self.old) rules.now stack.old budget (left result (view self.new) (stack.new, out.new)) }
+        ensures answers { left result (view self.new) (stack.new, out.new) ≡ run_call S.model R.model (view self.old) rules.now stack.old out.old budget }
+        ensures laws { RunLaws S.model R.model (view self.old) rules.now stack.old out.old budget (left result (view self.new) (stack.new, out.new)) }
+        ensures portions { InPortions S.model R.model (view self.old) rules.now stack.old budget (left result (view self.new) (stack.new, out.new)) }
     {
         self.run_any(rules, stack, out, budget)
     }

@@ -12,7 +12,7 @@ use interface::shape::Shape;
 
 impl<S: Shape> Solver<S> {
     pub(super) fn state_any<R: Rule>(&mut self, rules: &mut [R], rule: R) -> Result<(), SolverFault>
-        ensures { left result (view self.new) rules.new ≡ state_call S.Shape.model R.Rule.model (view self.old) rules.old rule }
+        ensures { left result (view self.new) rules.new ≡ state_call S.model R.model (view self.old) rules.old rule }
     {
         if !stating(self.phase) {
             return Err(SolverFault::Phase);
@@ -36,8 +36,8 @@ impl<S: Shape> Solver<S> {
     // Puts a rule after the others, of which there are at most 32, and applies its standing cut: every held point
     // that meets the rule stays, and none is added.
     pub fn state<R: Rule>(&mut self, rules: &mut [R], rule: R) -> Result<(), SolverFault>
-        ensures answers { left result (view self.new) rules.new ≡ state_call S.Shape.model R.Rule.model (view self.old) rules.old rule }
-        ensures narrows { StateNarrows S.Shape.model R.Rule.model (view self.old) rule (left result (view self.new) rules.new) }
+        ensures answers { left result (view self.new) rules.new ≡ state_call S.model R.model (view self.old) rules.old rule }
+        ensures narrows { StateNarrows S.model R.model (view self.old) rule (left result (view self.new) rules.new) }
     {
         self.state_any(rules, rule)
     }

@@ -13,4 +13,4 @@ invariant-rules g l = (l.reading ≡ read g.S.Shape.model l.region) × (by_rules
 
 -- the rounds that are left give the result
 abbrev pub invariant-rounds : goal.invariant-rounds
-invariant-rounds g l = (l.reading ≡ read g.S.Shape.model l.region) × (by_rounds g.S.Shape.model g.R.Rule.model (8 - l.-round) l.rules l.region ≡ refine g.S.Shape.model g.R.Rule.model l.rules l.initial.region)
+invariant-rounds g l = (l.reading ≡ read g.S.Shape.model l.region) × (by_rounds g.S.Shape.model g.R.Rule.model (8 - l._round) l.rules l.region ≡ refine g.S.Shape.model g.R.Rule.model l.rules l.initial.region)
