@@ -4,7 +4,7 @@ use Rattle.search.proofs.Rounds.{cuts_more, cuts_end, rules_more, rules_end, rou
 use Rattle.search.proofs.refine.rounds.Goals as goal
 
 pub apply-requires : goal.apply-requires
-apply-requires g c = (c.cuts.invariant.0, sym c.open.ensures ∙ c.if_not_open.false)
+apply-requires g c = (c.cuts.invariant.0, sym c.open.ensures ∙ c.if-not-open.false)
 
 pub rounds-init : goal.rounds-init
 rounds-init g c = (c.take_reading-reading.ensures, rounds_start g.S.Shape.model g.R.Rule.model c.args.rules.now c.args.shape)
@@ -34,7 +34,7 @@ pub returns-after-rounds : goal.returns-after-rounds
 returns-after-rounds g c = sym (rounds_end g.S.Shape.model g.R.Rule.model c.args.rules.now c.rounds._round c.rounds-test.false c.rounds.region) ∙ c.rounds.invariant.1
 
 pub returns-then-not-open : goal.returns-then-not-open
-returns-then-not-open g c = sym (rounds_left g.S.Shape.model g.R.Rule.model c.args.rules.now c.rounds._round c.rounds-test.true c.rules.rule-index c.rule-item.result c.rules-test.true c.rule-item.is c.cuts.i c.rounds.region c.rules.region c.cuts.region c.rules.invariant.1 c.cuts.invariant.1 (sym c.open.ensures ∙ c.if_not_open.true)) ∙ c.rounds.invariant.1
+returns-then-not-open g c = sym (rounds_left g.S.Shape.model g.R.Rule.model c.args.rules.now c.rounds._round c.rounds-test.true c.rules.rule-index c.rule-item.result c.rules-test.true c.rule-item.is c.cuts.i c.rounds.region c.rules.region c.cuts.region c.rules.invariant.1 c.cuts.invariant.1 (sym c.open.ensures ∙ c.if-not-open.true)) ∙ c.rounds.invariant.1
 
 pub returns-then-same_limits : goal.returns-then-same_limits
 returns-then-same_limits g c = sym (rounds_more g.S.Shape.model g.R.Rule.model c.args.rules.now c.rounds._round c.rounds-test.true c.rounds.region c.rules.region (sym (rules_end g.S.Shape.model g.R.Rule.model c.args.rules.now c.rules.rule-index c.rules-test.false c.rules.region) ∙ c.rules.invariant.1) c.rounds.reading c.rules.reading c.rounds.invariant.0 c.rules.invariant.0 _ c.if-same_limits.ensures) ∙ c.rounds.invariant.1
