@@ -1,13 +1,11 @@
 -- Half of at most 2 ^ (b + 1) values is at most 2 ^ b, so a halved direction needs one bit less; sums over the list follow. Assumes nothing.
-use Rattle.std.proofs.Common.{◌≡◌, ℕ, zero, suc, ◌+◌, ◌-◌, ◌*◌, ◌^◌, ◌<◌, ◌≤◌, Bool, true, false, leb, ◌⊎◌, List, [], ◌∷◌, length, get_or, sum_by, sym, refl, ap, ◌∙◌, subst, inl, inr, ⊎_elim, le_trans, le_antisymm, pow-suc, arith, pow_pos, pow_mono}
+use Rattle.std.proofs.Common.{◌≡◌, ℕ, zero, suc, ◌+◌, ◌-◌, ◌*◌, ◌^◌, ◌<◌, ◌≤◌, Bool, leb, List, [], ◌∷◌, length, get_or, sym, subst, ⊎_elim, le_trans, le_antisymm, pow-suc, arith, pow_mono}
 use lib.Count.{count_leading_zeros, leading_length}
-use lib.Pow.{pow-lt}
-use Rattle.std.proofs.lemmas.List.Sums.{sum_by-cons, best_none, best_keeps, best_takes}
-use Rattle.std.proofs.lemmas.Bool.{both_ways, leb-true, leb-false, le-leb, lt-leb, cases_lt}
-use Rattle.std.specs.List.{IsFirstMaxByKey}
-use Rattle.halving.specs.First.{every, first_below}
-use Rattle.halving.specs.Halvings.{bits_for, LeastPower, halvings_of, widest_of, Narrower, HalvedAt, HalvingLowers}
-use Rattle.halving.proofs.First.{every_decides, first_is, first_unique}
+use Rattle.std.proofs.lemmas.List.Sums.{sum_by-cons}
+use Rattle.std.proofs.lemmas.Bool.{both_ways, leb-true, le-leb, cases_lt}
+use Rattle.halving.specs.First.{first_below}
+use Rattle.halving.specs.Halvings.{bits_for, LeastPower, halvings_of, Narrower, HalvedAt, HalvingLowers}
+use Rattle.halving.proofs.First.{first_is}
 
 below_pow : (n : ℕ) → n < 2 ^ n
 below_pow zero = omega arith

@@ -1,10 +1,7 @@
 -- The best place so far, taken to the end of the list, is the first widest. Assumes nothing.
-use Rattle.std.proofs.Common.{◌≡◌, ℕ, zero, suc, ◌+◌, ◌<◌, ◌≤◌, Bool, true, false, cond, ltb, leb, ◌⊎◌, List, length, get_or, sym, refl, ap, ◌∙◌, subst, inl, inr, ⊎_elim, add-one, arith}
-use Rattle.std.proofs.lemmas.List.Sums.{best_none, best_keeps, best_takes}
-use Rattle.std.proofs.lemmas.List.{get_or_default, get_or_past}
-use Rattle.std.proofs.lemmas.Bool.{both_ways, ltb-true, ltb-false, le-leb, leb-true, lt-leb, cases_lt, cases_Bool}
-use Rattle.std.specs.List.{IsFirstMaxByKey}
-use Rattle.halving.specs.First.{every, first_below}
+use Rattle.std.proofs.Common.{◌≡◌, ℕ, zero, suc, ◌+◌, ◌<◌, ◌≤◌, Bool, true, false, cond, ltb, leb, List, length, get_or, sym, refl, subst, ⊎_elim, add-one, arith}
+use Rattle.std.proofs.lemmas.Bool.{both_ways, ltb-true, ltb-false, le-leb, lt-leb, cases_lt}
+use Rattle.halving.specs.First.{every}
 use Rattle.halving.specs.Halvings.{widest_of}
 use Rattle.halving.proofs.First.{every_decides, first_unique}
 

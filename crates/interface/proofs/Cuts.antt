@@ -1,8 +1,7 @@
 -- A cut is its three numbers: its proof of the bounds is the only one. Assumes nothing.
-use Rattle.std.proofs.Common.{◌≡◌, ℕ, Bool, true, false, ℤ, Some, None, Option, sym, refl, ap, ◌∙◌}
+use Rattle.std.proofs.Common.{◌≡◌, ℕ, Bool, true, false, ℤ, Some, refl, ap, ◌∙◌}
 use mathlib.Core.Bool.{Bool-set}
 use Rattle.std.proofs.lemmas.Bool.{both_ways}
-use Rattle.interface.specs.declared.cut.Cut.{Cut}
 use Rattle.interface.specs.CutBounds.{valid_cut}
 use Rattle.interface.specs.Cuts.{cut_of, cut_if}
 

@@ -1,5 +1,5 @@
 -- Grounds for a refusal, in their order: the first that holds decides. Assumes nothing.
-use Rattle.std.specs.Prelude.{ℕ, Bool, cond, List, [], ◌∷◌, Ok, Err, Result}
+use Rattle.std.specs.Prelude.{Bool, cond, List, [], ◌∷◌, Ok, Err, Result}
 
 -- accepted, or refused with the fault of the first ground whose condition holds
 abbrev pub first_fault : {F : Type 0} → List (Bool × F) → Result (Unit {0}) F

@@ -1,5 +1,5 @@
 -- Nodes and what they stand for: node 2k is setting k, node 2k + 1 its negative. Assumes nothing.
-use Rattle.std.specs.Prelude.{ℕ, ◌+◌, ◌-◌, ◌*◌, ◌/◌, ◌%◌, Bool, cond, List, ℤ, pos, neg_ℤ, ◌==◌, slice_index_or}
+use Rattle.std.specs.Prelude.{ℕ, ◌+◌, ◌-◌, ◌*◌, ◌/◌, ◌%◌, cond, List, ℤ, pos, neg_ℤ, ◌==◌, slice_index_or}
 
 -- the opposite node, which stands for the negative
 abbrev pub opp : ℕ → ℕ

@@ -1,5 +1,5 @@
 -- Bounds and halves of whole numbers. Assumes nothing.
-use Rattle.std.specs.Prelude.{ℕ, suc, Bool, not, ◌&&◌, ℤ, pos, neg_ℤ, int_le}
+use Rattle.std.specs.Prelude.{ℕ, Bool, ◌&&◌, ℤ, pos, neg_ℤ, int_le}
 use Rattle.std.specs.Int.{int_div_euclid}
 
 -- z lies from -b to b

@@ -1,5 +1,5 @@
 -- Points as lists of values, and their lexicographic order. Assumes nothing.
-use Rattle.std.specs.Prelude.{◌≡◌, ℕ, ◌⊎◌, List, [], ◌∷◌, take, ℤ, ◌<ℤ◌}
+use Rattle.std.specs.Prelude.{◌≡◌, ◌⊎◌, List, [], ◌∷◌, take, ℤ, ◌<ℤ◌}
 use Rattle.interface.specs.declared.point.Point.{Point}
 
 -- the values of the settings; what lies past n is no part of the point

@@ -1,18 +1,16 @@
 -- The grounds of a line one after another: where one is reached, none before it holds. Assumes nothing.
-use Rattle.std.proofs.Common.{◌≡◌, ℕ, zero, suc, ◌+◌, ◌-◌, ◌%◌, ◌<◌, ◌≤◌, Bool, true, false, cond, not, ◌||◌, eqb, ltb, ◌⊎◌, List, [], ◌∷◌, length, get_or, take, drop, Some, None, Ok, Err, Option, Result, sym, refl, ap, ◌∙◌, subst, inl, inr, arith}
+use Rattle.std.proofs.Common.{◌≡◌, ℕ, zero, suc, ◌+◌, ◌-◌, ◌%◌, ◌<◌, ◌≤◌, Bool, true, false, cond, not, ◌||◌, eqb, ltb, ◌⊎◌, List, [], ◌∷◌, length, get_or, take, None, Ok, Err, Result, sym, refl, ap, ◌∙◌, inl, inr, arith}
 use Rattle.std.specs.List.{prefix_len}
 use Rattle.std.proofs.lemmas.List.{drop_all, length-drop, length-take-le}
-use Rattle.std.proofs.lemmas.List.Sums.{prefix_len-le-length}
 use Rattle.std.proofs.lemmas.Bool.Decides.{nat_tests}
 use Rattle.std.proofs.lemmas.Bool.{ltb-true, ltb-false, lt-ltb, cond-true, eqb-true, eqb-false, or_cases, or_parts, not-true, not-false}
 use Rattle.interface.specs.declared.fault.TextFault.{TextFault}
-use Rattle.interface.specs.declared.fault.TextFault.TheVariants.{Size, Byte, Long, Digits, Unended}
 use Rattle.interface.specs.Grounds.{first_fault}
 use Rattle.wire.specs.declared.reader.Reader.{Reader}
 use Rattle.wire.specs.Bytes.{is_digit}
 use Rattle.wire.proofs.Hex.{hex_unhex}
 use Rattle.wire.specs.Readers.{left_of, advanced}
-use Rattle.wire.specs.Text.{place, line_length, first_line, has_feed, line_check, line_answer, next_line, used, count_up, next_number, LineSays, AllDigits, FirstWrong}
+use Rattle.wire.specs.Text.{place, line_length, first_line, has_feed, line_check, line_answer, next_line, used, count_up, next_number, LineSays, AllDigits}
 
 module _ (p : ℕ → Bool) where
   -- what leads passes, and what stands behind it does not

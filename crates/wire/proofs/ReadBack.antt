@@ -1,11 +1,11 @@
 -- A line that was written is all digits up to its line feed, so the reader finds it and accepts it. Assumes nothing.
-use Rattle.std.proofs.Common.{◌≡◌, ℕ, suc, ◌+◌, ◌*◌, ◌/◌, ◌%◌, ◌<◌, ◌≤◌, Bool, true, false, cond, not, ◌||◌, eqb, ltb, List, [], ◌∷◌, ◌++◌, length, take, Some, Ok, sym, refl, ap, ◌∙◌, subst, arith}
+use Rattle.std.proofs.Common.{◌≡◌, ℕ, suc, ◌+◌, ◌*◌, ◌/◌, ◌%◌, ◌<◌, ◌≤◌, Bool, true, false, ◌||◌, eqb, ltb, List, [], ◌∷◌, ◌++◌, length, take, Some, Ok, refl, ap, ◌∙◌, arith}
 use Rattle.std.specs.List.{prefix_len, AllByRecursion as All}
 use Rattle.std.proofs.ByRecursion.{All-weaker}
 use Rattle.std.proofs.lemmas.List.{append_assoc, length-append, take_at}
-use Rattle.std.proofs.lemmas.Bool.{cond-true, cond-false, lt-ltb, le-ltb, ne_eqb, or_from, both_ways}
+use Rattle.std.proofs.lemmas.Bool.{cond-true, cond-false, lt-ltb, le-ltb, ne_eqb, or_from}
 use Rattle.std.proofs.lemmas.Bool.Decides.{nat_tests}
-use Rattle.wire.specs.Bytes.{hex, unhex, is_digit, digit_of}
+use Rattle.wire.specs.Bytes.{hex, is_digit}
 use Rattle.wire.specs.Output.{line_of, ReadsBack}
 use Rattle.wire.specs.Text.{no_feed, line_length, first_line, has_feed, line_check, line_answer, next_line}
 use Rattle.wire.proofs.Hex.{digit_is, length_hex, unhex_hex}

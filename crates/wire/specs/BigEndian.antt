@@ -1,11 +1,9 @@
 -- Both directions of big-endian numbers, by induction on the width: the first byte is the quotient, the rest the remainder. Assumes nothing.
-use Rattle.std.specs.Prelude.{◌≡◌, ℕ, zero, suc, ◌+◌, ◌*◌, ◌/◌, ◌%◌, ◌^◌, ◌<◌, ◌≤◌, List, [], ◌∷◌, ◌++◌, length, get_or, drop, refl}
-use Rattle.std.proofs.Common.{ap, sym, ◌∙◌, pow-suc, arith}
+use Rattle.std.specs.Prelude.{◌≡◌, ℕ, zero, suc, ◌+◌, ◌*◌, ◌/◌, ◌%◌, ◌^◌, ◌<◌, List, [], ◌∷◌, length, refl}
+use Rattle.std.proofs.Common.{ap, ◌∙◌, pow-suc, arith}
 use Rattle.std.specs.List.{AllByRecursion as All}
 use Rattle.std.proofs.lemmas.Nat.{div-add-mod', div-mul-add, mod-mul-add, div_below, mod_below, mul-add-lt}
-use Rattle.std.proofs.ByRecursion.{All-get_or}
-use Rattle.std.proofs.lemmas.List.{drop_more, get_or_at, append_assoc, length_push}
-use Rattle.wire.specs.Bytes.{be, val, part}
+use Rattle.wire.specs.Bytes.{be, val}
 
 pub pow_above : (w : ℕ) → 0 < 256 ^ w
 pow_above zero = omega arith

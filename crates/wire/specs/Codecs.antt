@@ -1,16 +1,15 @@
 -- Fields that follow one another are read and written one after the other, so both round trips go field by field. Assumes nothing.
-use Rattle.std.specs.Prelude.{◌≡◌, ℕ, zero, suc, ◌+◌, ◌*◌, ◌^◌, ◌<◌, ◌≤◌, Bool, true, false, List, [], ◌∷◌, ◌++◌, length, drop, ℤ, pos, Ok, Result, FitsSigned, slice_index, slice_index_or, refl}
+use Rattle.std.specs.Prelude.{◌≡◌, ℕ, zero, suc, ◌+◌, ◌^◌, ◌<◌, ◌≤◌, Bool, true, false, List, [], ◌∷◌, ◌++◌, length, drop, ℤ, pos, Ok, FitsSigned, slice_index, slice_index_or, refl}
 use Rattle.std.proofs.Common.{ap, sym, ◌∙◌, subst, arith}
 use Rattle.std.proofs.Math.Facts.{Fits-of_z}
 use Rattle.std.specs.Int.{Width, w8, w16, w32, w64, w128}
-use mir.Val.{to_z, of_z, bytes, bits}
+use mir.Val.{of_z, bytes, bits}
 use Rattle.std.specs.List.{AllByRecursion as All}
-use Rattle.std.proofs.ByRecursion.{All-get_or, All-append}
-use Rattle.std.proofs.lemmas.List.{ext_get_or, drop_more, drop_all, get_or_at, append_assoc, append-nil, length_push, length-append, get_or_past}
+use Rattle.std.proofs.ByRecursion.{All-append}
+use Rattle.std.proofs.lemmas.List.{ext_get_or, drop_more, drop_all, get_or_at, append_assoc, length_push, length-append}
 use Rattle.std.proofs.lemmas.Int.{to_z-of_z, of_z-to_z}
-use Rattle.interface.specs.declared.fault.RecordFault.{RecordFault}
 use Rattle.wire.specs.Bytes.{be, val, part}
-use Rattle.wire.specs.Frames.{FrameModel, FrameLaws, Accepted, Field, field, Codec, CodecLaws, by_table, field_value, field_bits, read_field, write_field, read_fields, write_fields, widths, Laid, Fit, FitAll}
+use Rattle.wire.specs.Frames.{FrameLaws, Field, field, Codec, CodecLaws, by_table, field_value, field_bits, read_field, write_field, read_fields, write_fields, widths, Laid, Fit, FitAll}
 use Rattle.wire.specs.BigEndian.{length_be, small_be, val_be, be_val, val_below}
 
 -- the part of a list that stands behind p

@@ -1,5 +1,5 @@
 -- The line that says why a text was refused. Assumes nothing.
-use Rattle.std.specs.Prelude.{ℕ, cond, List, [], ◌∷◌, ◌++◌, ◌==◌}
+use Rattle.std.specs.Prelude.{ℕ, cond, List, ◌∷◌, ◌++◌, ◌==◌}
 use Rattle.interface.specs.declared.fault.SolverFault.{SolverFault}
 use Rattle.interface.specs.Faults.{solver_code}
 use Rattle.wire.specs.Bytes.{be}

@@ -1,5 +1,5 @@
 -- What a frame means: its model, the round trips that every frame keeps, and frames that go by a table of fields. Assumes nothing.
-use Rattle.std.specs.Prelude.{◌≡◌, ℕ, ◌+◌, ◌^◌, ◌<◌, ◌≤◌, Bool, true, false, cond, List, [], ◌∷◌, ◌++◌, length, ℤ, pos, Ok, Result, slice_index_or, unsigned_abs}
+use Rattle.std.specs.Prelude.{◌≡◌, ℕ, ◌+◌, ◌^◌, ◌<◌, ◌≤◌, Bool, cond, List, [], ◌∷◌, ◌++◌, length, ℤ, pos, Ok, Result, slice_index_or, unsigned_abs}
 use Rattle.std.specs.Int.{Width}
 use mir.Val.{to_z, of_z, bytes}
 use Rattle.std.specs.List.{AllByRecursion as All}

@@ -1,22 +1,22 @@
 -- The home frame byte by byte: byte j of what is written is byte j of what was read. Assumes nothing.
-use Rattle.std.specs.Prelude.{◌≡◌, ℕ, zero, suc, ◌+◌, ◌-◌, ◌*◌, ◌/◌, ◌%◌, ◌^◌, ◌<◌, ◌≤◌, min, Bool, true, false, cond, not, ◌⊎◌, List, [], ◌∷◌, ◌++◌, map, length, get_or, take, ℤ, pos, Ok, FitsSigned, ◌==◌, int_lt, nat_lt, slice_index, slice_index_or, refl}
+use Rattle.std.specs.Prelude.{◌≡◌, ℕ, zero, suc, ◌+◌, ◌-◌, ◌*◌, ◌/◌, ◌%◌, ◌<◌, ◌≤◌, min, true, cond, not, ◌⊎◌, List, [], ◌∷◌, map, length, get_or, take, ℤ, pos, FitsSigned, ◌==◌, int_lt, nat_lt, slice_index, slice_index_or, refl}
 use Rattle.std.proofs.Common.{inl, inr, ap, sym, ◌∙◌, subst, to_z, of_z, arith}
 use Rattle.std.proofs.Math.Facts.{Fits-of_z}
 use Rattle.std.specs.Int.{w32}
-use Rattle.std.specs.List.{range_with_len, AllByRecursion as All}
+use Rattle.std.specs.List.{range_with_len}
 use Rattle.std.proofs.lemmas.List.FromFn.{fill_by_all, get_or-map-range_with_len, length-map-range_with_len, take-map-range_with_len}
 use Rattle.std.proofs.ByRecursion.{All-from_get_or}
 use Rattle.std.proofs.lemmas.Int.{to_z-of_z}
-use Rattle.std.proofs.lemmas.Bool.{cond-true, cond-false, cases_lt, cases_Bool, lt-ltb, le-ltb, ne_eqb}
+use Rattle.std.proofs.lemmas.Bool.{cond-true, cond-false, cases_lt, lt-ltb, le-ltb, ne_eqb}
 use Rattle.interface.specs.declared.home.Home.{Home}
 use Rattle.interface.specs.declared.fault.RecordFault.TheVariants.{Range, Crossed}
 use Rattle.interface.specs.Grounds.{first_fault, next}
 use Rattle.interface.specs.Homes.{Passes, low_of, high_of, home_check, settings_grounds, range_grounds, crossed_grounds}
 use Rattle.interface.specs.Numbers.{within}
-use Rattle.wire.specs.Bytes.{be, val, part}
+use Rattle.wire.specs.Bytes.{be, val}
 use Rattle.wire.specs.Frames.{FrameLaws, Accepted, field}
 use Rattle.wire.specs.HomeFrame.{word_at, word_byte, range_byte, home_byte, first_or_0, eight, write_home, read_home, counted_home, home_frame}
-use Rattle.wire.specs.BigEndian.{length_be, small_be, val_be}
+use Rattle.wire.specs.BigEndian.{small_be, val_be}
 use Rattle.wire.specs.Codecs.{write_one, get_d_part, part_is, byte_small}
 use Rattle.wire.specs.Passing.{settings_ok, low_fits, high_fits, joined_same}
 

@@ -1,5 +1,5 @@
 -- The kinds of frame, and the grounds on which a frame is refused before its fields are read. Assumes nothing.
-use Rattle.std.specs.Prelude.{ℕ, ◌+◌, ◌*◌, Bool, true, false, cond, not, List, [], ◌∷◌, length, is_some, Some, None, Ok, Err, Option, Result, ◌==◌, slice_index}
+use Rattle.std.specs.Prelude.{ℕ, ◌+◌, ◌*◌, Bool, false, cond, not, List, [], ◌∷◌, length, is_some, Some, None, Ok, Err, Option, Result, ◌==◌, slice_index}
 use Rattle.interface.specs.declared.fault.TextFault.{TextFault}
 use Rattle.interface.specs.declared.fault.FrameFault.{FrameFault}
 use Rattle.interface.specs.declared.fault.FrameFault.TheVariants.{Text, Kind, Order, Length}

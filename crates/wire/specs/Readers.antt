@@ -1,7 +1,6 @@
 -- A reader's place in its text. Assumes nothing.
 use Rattle.std.specs.Prelude.{ℕ, ◌+◌, List, drop, Some, None, Ok, Err, Option, Result}
 use Rattle.std.specs.Borrow.{Bor}
-use Rattle.interface.specs.declared.fault.TextFault.{TextFault}
 use Rattle.wire.specs.declared.reader.Reader.{Reader}
 use Rattle.wire.specs.Text.{next_line, used, next_number}
 

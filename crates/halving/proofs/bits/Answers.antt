@@ -1,5 +1,4 @@
-use Rattle.std.proofs.Common.{◌+◌, ◌-◌, ◌^◌, ◌<◌, sym, ◌∙◌, subst, arith, rules}
-use lib.Count.{count_leading_zeros}
+use Rattle.std.proofs.Common.{◌+◌, ◌^◌, ◌<◌, sym, subst, arith, rules}
 use Rattle.halving.specs.Halvings.{LeastPower}
 use Rattle.halving.proofs.Lowers.{digits_least, bits_unique}
 use Rattle.halving.proofs.bits.Goals as goal

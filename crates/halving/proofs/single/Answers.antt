@@ -1,4 +1,4 @@
-use Rattle.std.proofs.Common.{◌&&◌, eqb, get_or, sym, ap, ◌∙◌, arith}
+use Rattle.std.proofs.Common.{◌&&◌, eqb, get_or, sym, ap, ◌∙◌}
 use Rattle.halving.proofs.First.{every_none, every_more}
 use Rattle.halving.proofs.single.Goals as goal
 

@@ -1,4 +1,4 @@
-use Rattle.std.proofs.Common.{◌≡◌, ◌<◌, length, subst, arith, rules}
+use Rattle.std.proofs.Common.{length, subst, arith}
 use Rattle.halving.proofs.Places.{Widest, widest_all}
 use Rattle.halving.proofs.widest.Goals as goal
 

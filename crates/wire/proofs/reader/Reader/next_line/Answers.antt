@@ -1,6 +1,5 @@
-use Rattle.std.proofs.Common.{◌≡◌, ◌+◌, ◌-◌, take, drop, Ok, Err, sym, ap, ◌∙◌, arith}
+use Rattle.std.proofs.Common.{Ok, Err, sym, arith}
 use Rattle.std.proofs.lemmas.Result.{err_from_is_err_and}
-use Rattle.wire.specs.Text.{line_answer, used}
 use Rattle.wire.proofs.Lines.{none_left, none_moves, line_answered, line_moves, part_long}
 use Rattle.wire.proofs.reader.Reader.next_line.Goals as goal
 
