@@ -6,11 +6,11 @@ use Rattle.fitter.proofs.desk.Desk.ask.Goals as goal
 use Rattle.fitter.specs.Counting.{rules_in, marks_in}
 use Rattle.fitter.specs.Sessions.{Session}
 
-pub invariant-of-self : goal.invariant-of-self
-invariant-of-self c = (∣ tt ∣₁, (refl, (refl, tt)))
+pub invariant_of-self : goal.invariant_of-self
+invariant_of-self c = (∣ tt ∣₁, (refl, (refl, tt)))
 
-pub invariant-of-self-5 : goal.invariant-of-self-5
-invariant-of-self-5 c =
+pub invariant_of-self-5 : goal.invariant_of-self-5
+invariant_of-self-5 c =
     let d = c.args.self.now in
     let rules = subst (λ o. rules_in o d.counts.rules ≡ d.counts.rules) c.in-Some.is d.standing in
     let marks = subst (λ o. marks_in o d.counts.marks ≡ d.counts.marks) c.in-Some.is d.marked in

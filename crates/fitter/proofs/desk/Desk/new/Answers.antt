@@ -2,5 +2,5 @@
 use Rattle.std.proofs.Common.{refl}
 use Rattle.fitter.proofs.desk.Desk.new.Goals as goal
 
-pub invariant-of-result : goal.invariant-of-result
-invariant-of-result c = (∣ tt ∣₁, (refl, (refl, tt)))
+pub invariant_of-result : goal.invariant_of-result
+invariant_of-result c = (∣ tt ∣₁, (refl, (refl, tt)))
