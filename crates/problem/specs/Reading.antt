@@ -1,8 +1,6 @@
 -- How a text is read: line by line, each through every layer before the next. Assumes nothing.
-use Rattle.std.specs.Prelude.{ℕ, zero, suc, ◌+◌, Bool, true, false, cond, List, [], ◌∷◌, ◌++◌, length, drop, Some, None, Ok, Err, Option, Result, nat_le}
-use Rattle.interface.specs.declared.fault.TextFault.{TextFault}
+use Rattle.std.specs.Prelude.{ℕ, zero, suc, true, false, cond, List, [], ◌∷◌, ◌++◌, length, drop, Some, None, Ok, Err, Option, Result, nat_le}
 use Rattle.interface.specs.declared.fault.TextFault.TheVariants.{Size}
-use Rattle.interface.specs.declared.fault.FrameFault.{FrameFault}
 use Rattle.interface.specs.declared.fault.FrameFault.TheVariants.{Text}
 use Rattle.interface.specs.declared.fault.RecordFault.{RecordFault}
 use Rattle.interface.specs.declared.fault.RecordFault.TheVariants.{Frame}

@@ -1,10 +1,10 @@
 -- Lines that all have room stand one after another: each is written where the one before it ends. Assumes nothing.
-use Rattle.std.proofs.Common.{◌≡◌, ℕ, ◌+◌, ◌*◌, ◌<◌, ◌≤◌, true, ltb, List, [], ◌∷◌, ◌++◌, length, take, drop, Some, None, Option, sym, refl, ap, ◌∙◌, arith}
+use Rattle.std.proofs.Common.{◌≡◌, ℕ, ◌+◌, ◌*◌, ◌≤◌, true, ltb, List, [], ◌∷◌, ◌++◌, length, take, drop, Some, None, sym, refl, ap, ◌∙◌, arith}
 use Rattle.std.specs.List.{flat_map}
 use Rattle.std.proofs.lemmas.List.{append_assoc, length-append, length-drop, length-take-le, length_push, take_at, drop_at, drop-drop}
 use Rattle.std.proofs.lemmas.Bool.{cond-true, lt-ltb}
 use Rattle.wire.specs.Bytes.{hex}
-use Rattle.wire.specs.Output.{written, line_of, line_put, line_end}
+use Rattle.wire.specs.Output.{written, line_of}
 use Rattle.wire.proofs.Hex.{length_hex}
 use Rattle.wire.proofs.Written.{written_none}
 use Rattle.report_lines.specs.Appending.{Lines, lines, place_after, put_frame, put_frames, line_size, lines_size, WrittenWhole}

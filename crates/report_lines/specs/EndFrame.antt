@@ -1,5 +1,5 @@
 -- The frame that ends an answer. Assumes nothing.
-use Rattle.std.specs.Prelude.{ℕ, Bool, cond, List, [], ◌∷◌}
+use Rattle.std.specs.Prelude.{ℕ, Bool, cond, List, ◌∷◌}
 use Rattle.search_theory.specs.declared.outcome.Outcome.{Outcome}
 use Rattle.search_theory.specs.Outcomes.{outcome_number}
 use Rattle.wire.specs.Bytes.{be}

@@ -7,7 +7,6 @@ use Rattle.std.proofs.lemmas.Bool.{leb-false, lt-ltb, cond-true, both_ways, and_
 use Rattle.interface.specs.declared.cut.Cut.{Cut}
 use Rattle.interface.specs.declared.reading.Reading.{Reading}
 use Rattle.interface.specs.Cuts.{Meets}
-use Rattle.interface.specs.Nodes.{value}
 use Rattle.interface.specs.Readings.{Within, SumsOf}
 use Rattle.interface.specs.Rules.{RuleLaws}
 use Rattle.wire.specs.Frames.{FrameLaws, by_table, FitAll}

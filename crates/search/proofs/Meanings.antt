@@ -1,5 +1,5 @@
 -- An accepted call means what the shape's and the rule's own laws say of their answers. Assumes nothing.
-use Rattle.std.proofs.Common.{◌≡◌, ℕ, ◌*◌, true, List, set, ℤ, Ok, Err, Decides, Result, sym, refl, ap, ◌∙◌, subst, leb-false}
+use Rattle.std.proofs.Common.{◌≡◌, ℕ, ◌*◌, true, List, set, ℤ, Ok, Err, Decides, Result, refl, ◌∙◌, subst, leb-false}
 use Rattle.interface.specs.declared.fault.SolverFault.{SolverFault}
 use Rattle.interface.specs.declared.fault.SolverFault.TheVariants.{Record}
 use Rattle.interface.specs.declared.fault.RecordFault.{RecordFault}

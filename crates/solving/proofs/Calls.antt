@@ -1,18 +1,15 @@
 -- Each call is accepted, so the history's ledger has the problem's rules; the promise then speaks of the problem itself. Assumes nothing.
-use Rattle.std.proofs.Common.{◌≡◌, ℕ, ◌+◌, ◌<◌, ◌≤◌, Bool, true, false, not, ◌&&◌, ◌||◌, eqb, ltb, leb, ◌≢◌, ◌↔◌, List, [], ◌∷◌, ◌++◌, map, reverse, length, take, set, ℤ, Ok, Err, Result, sym, refl, ap, ◌∙◌, subst, append_assoc, arith, length-set, length-take}
+use Rattle.std.proofs.Common.{◌≡◌, ℕ, ◌+◌, ◌<◌, ◌≤◌, Bool, true, false, not, ◌||◌, eqb, leb, ◌≢◌, ◌↔◌, List, [], ◌∷◌, ◌++◌, map, reverse, length, take, set, ℤ, Ok, Result, sym, refl, ap, ◌∙◌, subst, append_assoc, arith, length-set, length-take}
 use Rattle.std.proofs.lemmas.List.{append-nil, length_push, reverse-reverse}
 use Rattle.std.proofs.lemmas.Bool.{le-ltb, lt-leb, ne_eqb, or_from, le-leb, and_from}
 use Rattle.std.specs.List.{AllByRecursion as All}
 use Rattle.interface.specs.declared.fault.RecordFault.{RecordFault}
-use Rattle.interface.specs.declared.fault.SolverFault.{SolverFault}
 use Rattle.interface.specs.declared.fault.SolverFault.TheVariants.{Phase, Short, Rules, Stack}
 use Rattle.interface.specs.declared.home.Home.{Home}
 use Rattle.interface.specs.Grounds.{first_fault}
-use Rattle.interface.specs.Homes.{Passes}
 use Rattle.interface.specs.Points.{values_of}
 use Rattle.interface.specs.Rules.{RuleModel, RuleLaws}
 use Rattle.interface.specs.Shapes.{ShapeModel, ShapeLaws}
-use Rattle.search_theory.specs.declared.checkpoint.Checkpoint.{Checkpoint}
 use Rattle.search_theory.specs.declared.outcome.Outcome.TheVariants.{Done, StackFull}
 use Rattle.search_theory.specs.declared.report.Report.{Report}
 use Rattle.search_theory.specs.declared.phase.Phase.TheVariants.{Stating, Searching}
@@ -27,14 +24,14 @@ use Rattle.search_theory.specs.Requests.{World, Answered, whole, answer, replied
 use Rattle.search_theory.specs.Promise.{Called, called, Kept, RunWith}
 use Rattle.search_theory.specs.Runs.{Ended, run_from, report_of}
 use Rattle.search_theory.specs.Standing.{shape_of, how_many, shapes_of}
-use Rattle.search_theory.specs.Solving.{Solving, Left, left, refused, decided, is_stating, is_searching}
+use Rattle.search_theory.specs.Solving.{Left, left, refused, decided, is_stating, is_searching}
 use Rattle.search_theory.proofs.Fronts.{front_fits}
 use Rattle.search_theory.proofs.Histories.{inv_history}
 use Rattle.search_theory.proofs.Invariant.{Inv}
 use Rattle.search_theory.proofs.Promise.{promised}
 use Rattle.search_theory.proofs.RunLaws.{run_laws}
 use Rattle.search_theory.proofs.Standing.{shape_n}
-use Rattle.solving.specs.Solving.{Slices, after_calls, fresh, stated_all, begun, solved, Solvable, TrueOf, SolvesTruly, Setting}
+use Rattle.solving.specs.Solving.{Slices, after_calls, fresh, stated_all, SolvesTruly, Setting}
 
 -- no ground holds, in each of the three calls
 state_clear : (a b d : Bool) (c : Result (Unit {0}) RecordFault) → a ≡ false → b ≡ false → c ≡ Ok tt → d ≡ false → first_fault ((a, Phase) ∷ (b, Short) ∷ (record_grounds c ++ (d, Rules) ∷ [])) ≡ Ok tt

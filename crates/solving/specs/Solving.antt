@@ -1,5 +1,5 @@
 -- The calls that solve a problem, one after the other, and what is true of their answer. Assumes nothing.
-use Rattle.std.specs.Prelude.{◌≡◌, ℕ, ◌+◌, ◌<◌, ◌≤◌, true, false, ◌≢◌, ◌↔◌, List, [], ◌∷◌, ◌++◌, map, length, take, ℤ, Ok}
+use Rattle.std.specs.Prelude.{◌≡◌, ℕ, ◌+◌, ◌<◌, ◌≤◌, true, false, ◌≢◌, ◌↔◌, List, [], ◌∷◌, map, length, take, ℤ, Ok}
 use Rattle.std.specs.List.{AllByRecursion as All}
 use Rattle.interface.specs.declared.home.Home.{Home}
 use Rattle.interface.specs.Homes.{InHome, Passes}
