@@ -1,7 +1,7 @@
 -- Chains: the form that computes is the least sum; where no chain to the opposite node is below 0, longer chains are no lower, so the least sums are closed.
 use Rattle.std.proofs.Common.{◌≡◌, ℕ, zero, suc, ◌+◌, ◌-◌, ◌*◌, ◌<◌, ◌≤◌, ◌⊎◌, List, [], ◌∷◌, ◌++◌, map, length, get_or, ℤ, pos, ◌+ℤ◌, ◌≤ℤ◌, sym, refl, ap, ◌∙◌, subst, inl, inr, arith, length-append}
 use native.Mathlib.Decide.{ℕ_discrete}
-use Rattle.std.specs.List.{range_with_len, ContainsAt as Has, AllByRecursion as All}
+use Rattle.std.specs.List.{range_with_len, ContainsAt as Has, AllByRecursion}
 use Rattle.std.proofs.lemmas.List.FromFn.{get_or-map-range_with_len, length-map-range_with_len}
 use Rattle.std.proofs.ByRecursion.{All-get_or, All-append, folded_min_z_bounds, folded_min_z_reached}
 use borrow.Author.Differences.{ints}
@@ -15,20 +15,20 @@ pub chain_split : (T : ℕ → ℕ → ℤ) (p : ℕ) (before : List ℕ) (a : �
 chain_split T p [] a after q = refl
 chain_split T p (r ∷ rs) a after q = let e = chain_split T (opp r) rs a after q in omega (arith, ints)
 
-pub all_parts : {X : Type 0} (P : X → Type 0) (xs ys : List X) → All P (xs ++ ys) → All P xs × All P ys
+pub all_parts : {X : Type 0} (P : X → Type 0) (xs ys : List X) → AllByRecursion P (xs ++ ys) → AllByRecursion P xs × AllByRecursion P ys
 all_parts P [] ys h = (tt, h)
 all_parts P (x ∷ xs) ys h = let r = all_parts P xs ys h.1 in ((h.0, r.0), r.1)
 
 -- z is the sum of a chain from p to q with at most m nodes between
 abbrev SomeChain : ℕ → (ℕ → ℕ → ℤ) → ℕ → ℕ → ℕ → ℤ → Type 0
-SomeChain n T m p q z = (rs : List ℕ) × (length rs ≤ m) × All (λ r. r < 2 * n) rs × (chain_sum T p rs q ≡ z)
+SomeChain n T m p q z = (rs : List ℕ) × (length rs ≤ m) × AllByRecursion (λ r. r < 2 * n) rs × (chain_sum T p rs q ≡ z)
 
 module _ (n : ℕ) (T : ℕ → ℕ → ℤ) where
   -- the sums by way of each node
   over : ℕ → ℕ → ℕ → ℕ → ℤ
   over m p q r = T p r +ℤ least_upto n T m (opp r) q
 
-  upto_lowest : (m p q : ℕ) (rs : List ℕ) → length rs ≤ m → All (λ r. r < 2 * n) rs → least_upto n T m p q ≤ℤ chain_sum T p rs q
+  upto_lowest : (m p q : ℕ) (rs : List ℕ) → length rs ≤ m → AllByRecursion (λ r. r < 2 * n) rs → least_upto n T m p q ≤ℤ chain_sum T p rs q
   unfolding least_upto over
   upto_lowest zero p q [] s k = omega (arith, ints)
   upto_lowest zero p q (r ∷ rs) s k = absurd (omega arith)
@@ -92,29 +92,29 @@ module _ (n : ℕ) (T : ℕ → ℕ → ℤ) (C : ℕ → ℕ → ℤ) (least : 
       omega (arith, ints)
 
   -- a chain with 2n nodes between, of which one comes back
-  shortened : (p q : ℕ) (rs before : List ℕ) (a : ℕ) (inner after : List ℕ) → p < 2 * n → All (λ r. r < 2 * n) rs → length rs ≡ 2 * n → opp p ∷ rs ≡ before ++ (a ∷ (inner ++ (a ∷ after))) → C p q ≤ℤ chain_sum T p rs q
+  shortened : (p q : ℕ) (rs before : List ℕ) (a : ℕ) (inner after : List ℕ) → p < 2 * n → AllByRecursion (λ r. r < 2 * n) rs → length rs ≡ 2 * n → opp p ∷ rs ≡ before ++ (a ∷ (inner ++ (a ∷ after))) → C p q ≤ℤ chain_sum T p rs q
   shortened p q rs [] a inner after h k s e =
       let a-is : a ≡ opp p = cc in
       let rs-is : rs ≡ inner ++ (opp p ∷ after) = let t : rs ≡ inner ++ (a ∷ after) = cc in t ∙ ap (λ x. inner ++ (x ∷ after)) a-is in
-      let on = all_parts (λ r. r < 2 * n) inner (opp p ∷ after) (subst (λ xs. All (λ r. r < 2 * n) xs) rs-is k) in
+      let on = all_parts (λ r. r < 2 * n) inner (opp p ∷ after) (subst (λ xs. AllByRecursion (λ r. r < 2 * n) xs) rs-is k) in
       let size : length inner + length (opp p ∷ after) ≡ 2 * n = sym (length-append inner (opp p ∷ after)) ∙ sym (ap length rs-is) ∙ s in
       subst (λ xs. C p q ≤ℤ chain_sum T p xs q) (sym rs-is) (return_out p q inner after h (omega arith, on.0) (omega arith, on.1.1))
   shortened p q rs (b ∷ before) a inner after h k s e =
       let rs-is : rs ≡ before ++ (a ∷ (inner ++ (a ∷ after))) = cc in
-      let on = all_parts (λ r. r < 2 * n) before (a ∷ (inner ++ (a ∷ after))) (subst (λ xs. All (λ r. r < 2 * n) xs) rs-is k) in
+      let on = all_parts (λ r. r < 2 * n) before (a ∷ (inner ++ (a ∷ after))) (subst (λ xs. AllByRecursion (λ r. r < 2 * n) xs) rs-is k) in
       let on' = all_parts (λ r. r < 2 * n) inner (a ∷ after) on.1.1 in
       let size : length before + suc (length inner + length (a ∷ after)) ≡ 2 * n = ap (λ x. length before + suc x) (sym (length-append inner (a ∷ after))) ∙ sym (length-append before (a ∷ (inner ++ (a ∷ after)))) ∙ sym (ap length rs-is) ∙ s in
       let l = length-append before (a ∷ after) in
       subst (λ xs. C p q ≤ℤ chain_sum T p xs q) (sym rs-is) (loop_out p q before a inner after on.1.0 (omega arith, on'.0) (omega arith, All-append (λ r. r < 2 * n) before (a ∷ after) on.0 (on.1.0, on'.1.1)))
 
-  one_more : (p q : ℕ) (rs : List ℕ) → p < 2 * n → All (λ r. r < 2 * n) rs → length rs ≤ 2 * n → Dec (length rs ≡ 2 * n) → C p q ≤ℤ chain_sum T p rs q
+  one_more : (p q : ℕ) (rs : List ℕ) → p < 2 * n → AllByRecursion (λ r. r < 2 * n) rs → length rs ≤ 2 * n → Dec (length rs ≡ 2 * n) → C p q ≤ℤ chain_sum T p rs q
   one_more p q rs h k s (no d) = (least p q).lowest rs (omega arith, k)
   one_more p q rs h k s (yes e) =
       let r = pigeonhole (2 * n) (opp p ∷ rs) (opp_below n p h, k) (omega arith) in
       shortened p q rs r.before r.again r.inner r.after h k e r.whole
 
   -- no chain of the line's nodes, however long, is lower
-  pub any_length : (rs : List ℕ) (p q : ℕ) → p < 2 * n → All (λ r. r < 2 * n) rs → C p q ≤ℤ chain_sum T p rs q
+  pub any_length : (rs : List ℕ) (p q : ℕ) → p < 2 * n → AllByRecursion (λ r. r < 2 * n) rs → C p q ≤ℤ chain_sum T p rs q
   any_length [] p q h k = (least p q).lowest [] (omega arith, tt)
   any_length (r ∷ rs) p q h k =
       let i = any_length rs (opp r) q (opp_below n r k.0) k.1 in
@@ -144,7 +144,7 @@ unfolding mirror
 length_mirror [] = refl
 length_mirror (r ∷ rs) = let e = length-append (mirror rs) (opp r ∷ []) in let f = length_mirror rs in omega arith
 
-all_mirror : (n : ℕ) (rs : List ℕ) → All (λ r. r < 2 * n) rs → All (λ r. r < 2 * n) (mirror rs)
+all_mirror : (n : ℕ) (rs : List ℕ) → AllByRecursion (λ r. r < 2 * n) rs → AllByRecursion (λ r. r < 2 * n) (mirror rs)
 unfolding mirror
 all_mirror n [] k = tt
 all_mirror n (r ∷ rs) k = All-append (λ r. r < 2 * n) (mirror rs) (opp r ∷ []) (all_mirror n rs k.1) (opp_below n r k.0, tt)

@@ -1,7 +1,7 @@
 -- The limits are exact: the least sums are closed, so rounding and joining makes them tight, with the points of the home and its cuts; and a tight matrix reaches every entry.
 use Rattle.std.proofs.Common.{◌≡◌, ℕ, zero, suc, ◌+◌, ◌*◌, ◌<◌, ◌≤◌, Bool, true, false, cond, not, ◌&&◌, ◌||◌, eqb, ltb, ◌⊎◌, List, [], ◌∷◌, length, ℤ, pos, ◌+ℤ◌, ◌≤ℤ◌, Decides, sym, refl, ap, ◌∙◌, subst, inl, inr, arith}
 use lib.Signed.{lt_z}
-use Rattle.std.specs.List.{range_with_len, AllByRecursion as All}
+use Rattle.std.specs.List.{range_with_len, AllByRecursion}
 use Rattle.std.specs.Int.{int_min}
 use Rattle.std.proofs.lemmas.List.FromFn.{get_or-range_with_len, length-range_with_len}
 use Rattle.std.proofs.ByRecursion.{All-get_or}
@@ -23,11 +23,11 @@ use Rattle.octagon_theory.proofs.Nodes.{opp_below, value_opp}
 use Rattle.octagon_theory.proofs.Tight.{Closed}
 
 -- ---- a test over the nodes of a line
-any_false : (f : ℕ → Bool) (xs : List ℕ) → any f xs ≡ false → All (λ x. f x ≡ false) xs
+any_false : (f : ℕ → Bool) (xs : List ℕ) → any f xs ≡ false → AllByRecursion (λ x. f x ≡ false) xs
 any_false f [] e = tt
 any_false f (x ∷ xs) e = let p = or_parts (f x) (any f xs) e in (p.0, any_false f xs p.1)
 
-any_true : (f : ℕ → Bool) (xs : List ℕ) (P : ℕ → Type 0) → All P xs → any f xs ≡ true → (x : ℕ) × P x × (f x ≡ true)
+any_true : (f : ℕ → Bool) (xs : List ℕ) (P : ℕ → Type 0) → AllByRecursion P xs → any f xs ≡ true → (x : ℕ) × P x × (f x ≡ true)
 any_true f [] P a e = absurd (both_ways false refl e)
 any_true f (x ∷ xs) P a e = by (or_cases (f x) (any f xs) e) (any_true f xs P a.1)
   where
@@ -35,11 +35,11 @@ any_true f (x ∷ xs) P a e = by (or_cases (f x) (any f xs) e) (any_true f xs P 
     by (inl h) r = (x, a.0, h)
     by (inr h) r = r h
 
-all_nodes : (a m b : ℕ) → a + m ≤ b → All (λ p. p < b) (range_with_len a m)
+all_nodes : (a m b : ℕ) → a + m ≤ b → AllByRecursion (λ p. p < b) (range_with_len a m)
 all_nodes a zero b h = tt
 all_nodes a (suc m) b h = (omega arith, all_nodes (a + 1) m b (omega arith))
 
-pub at_each : (P : ℕ → Type 0) (m : ℕ) → All P (range_with_len 0 m) → (p : ℕ) → p < m → P p
+pub at_each : (P : ℕ → Type 0) (m : ℕ) → AllByRecursion P (range_with_len 0 m) → (p : ℕ) → p < m → P p
 at_each P m a p h =
     let l = length-range_with_len 0 m in
     subst P (get_or-range_with_len 0 m p 0 h ∙ (let z : 0 + p ≡ p = omega arith in z)) (All-get_or P (range_with_len 0 m) p 0 (omega arith) a)
@@ -72,7 +72,7 @@ exact_from_tight n L S K to from p q a b = record {
 
 module _ (h : Home) (ts : List Cut) where
   -- a chain's sum is above each point that the matrix is above
-  chain_above : (x : List ℤ) → ((p q : ℕ) → p < 2 * h.n → q < 2 * h.n → (value x p +ℤ value x q) ≤ℤ entry h ts p q) → (rs : List ℕ) (p q : ℕ) → p < 2 * h.n → q < 2 * h.n → All (λ r. r < 2 * h.n) rs → (value x p +ℤ value x q) ≤ℤ chain_sum (entry h ts) p rs q
+  chain_above : (x : List ℤ) → ((p q : ℕ) → p < 2 * h.n → q < 2 * h.n → (value x p +ℤ value x q) ≤ℤ entry h ts p q) → (rs : List ℕ) (p q : ℕ) → p < 2 * h.n → q < 2 * h.n → AllByRecursion (λ r. r < 2 * h.n) rs → (value x p +ℤ value x q) ≤ℤ chain_sum (entry h ts) p rs q
   chain_above x a [] p q b c k = a p q b c
   chain_above x a (r ∷ rs) p q b c k =
       let s = a p r b k.0 in

@@ -1,7 +1,7 @@
 -- What a home that passes its check has: no ground of any setting holds.
 use Rattle.std.proofs.Common.{◌≡◌, ℕ, ◌+◌, ◌*◌, ◌<◌, Bool, true, false, cond, ◌&&◌, ltb, List, [], ◌∷◌, ℤ, pos, ◌+ℤ◌, neg_ℤ, ◌≤ℤ◌, Ok, Err, Result, sym, refl, ap, ◌∙◌, arith}
 use lib.Signed.{le_z, lt_z}
-use Rattle.std.specs.List.{range_with_len, flat_map, AllByRecursion as All}
+use Rattle.std.specs.List.{range_with_len, flat_map, AllByRecursion}
 use Rattle.std.proofs.lemmas.Bool.{not-false, and_parts, and_from, ltb-true}
 use borrow.Author.Differences.{ints}
 use Rattle.interface.specs.declared.home.Home.{Home}
@@ -18,15 +18,15 @@ next_both : {F : Type 0} (a b : Result (Unit {0}) F) → next a b ≡ Ok tt → 
 next_both (Ok u) b e = (refl, e)
 next_both (Err f) b e = absurd (let z : ◌≡◌ {A = ℕ} 0 1 = cc in omega arith)
 
-none_holds : {F : Type 0} (gs : List (Bool × F)) → first_fault gs ≡ Ok tt → All (λ g. g.0 ≡ false) gs
+none_holds : {F : Type 0} (gs : List (Bool × F)) → first_fault gs ≡ Ok tt → AllByRecursion (λ g. g.0 ≡ false) gs
 none_holds [] e = tt
 none_holds (g ∷ gs) e = by g.0 refl e (none_holds gs)
   where
-    by : (b : Bool) → g.0 ≡ b → cond b (Err g.1) (first_fault gs) ≡ Ok tt → (first_fault gs ≡ Ok tt → All (λ g. g.0 ≡ false) gs) → All (λ g. g.0 ≡ false) (g ∷ gs)
+    by : (b : Bool) → g.0 ≡ b → cond b (Err g.1) (first_fault gs) ≡ Ok tt → (first_fault gs ≡ Ok tt → AllByRecursion (λ g. g.0 ≡ false) gs) → AllByRecursion (λ g. g.0 ≡ false) (g ∷ gs)
     by true d f r = absurd (let z : ◌≡◌ {A = ℕ} 0 1 = cc in omega arith)
     by false d f r = (d, r f)
 
-each_passes : {F : Type 0} (g : ℕ → List (Bool × F)) (ks : List ℕ) → first_fault (flat_map g ks) ≡ Ok tt → All (λ k. first_fault (g k) ≡ Ok tt) ks
+each_passes : {F : Type 0} (g : ℕ → List (Bool × F)) (ks : List ℕ) → first_fault (flat_map g ks) ≡ Ok tt → AllByRecursion (λ k. first_fault (g k) ≡ Ok tt) ks
 each_passes g [] e = tt
 each_passes g (k ∷ ks) e = let b = next_both (first_fault (g k)) (first_fault (flat_map g ks)) (sym (first-fault-++ (g k) (flat_map g ks)) ∙ e) in (b.0, each_passes g ks b.1)
 

@@ -1,7 +1,7 @@
 -- A list of more than m numbers below m holds some number twice: a list without repeats loses at most one number with each step down of the bound.
 use Rattle.std.proofs.Common.{◌≡◌, ℕ, zero, suc, ◌<◌, ◌≤◌, ◌≢◌, ◌⊎◌, List, [], ◌∷◌, ◌++◌, length, ap, subst, inl, inr, arith}
 use native.Mathlib.Decide.{ℕ_discrete}
-use Rattle.std.specs.List.{AllByRecursion as All}
+use Rattle.std.specs.List.{AllByRecursion}
 
 -- the list holds `again` at two places
 pub record Repeat (xs : List ℕ) : Type 0 where
@@ -12,7 +12,7 @@ pub record Repeat (xs : List ℕ) : Type 0 where
   pub whole : xs ≡ before ++ (again ∷ (inner ++ (again ∷ after)))
 
 abbrev Without : ℕ → List ℕ → Type 0
-Without a xs = All (λ y. y ≢ a) xs
+Without a xs = AllByRecursion (λ y. y ≢ a) xs
 
 abbrev Distinct : List ℕ → Type 0
 Distinct [] = Unit {0}
@@ -42,29 +42,29 @@ repeat_or_distinct (x ∷ xs) = repeat_step x xs (find x xs) (repeat_or_distinct
 -- xs without the number m, the greatest that it may hold
 record Lower (m : ℕ) (xs : List ℕ) : Type 0 where
   rest : List ℕ
-  below : All (λ x. x < m) rest
+  below : AllByRecursion (λ x. x < m) rest
   distinct : Distinct rest
   size : length xs ≤ suc (length rest)
   fewer : (z : ℕ) → Without z xs → Without z rest
 
-all_below : (m : ℕ) (xs : List ℕ) → All (λ x. x < suc m) xs → Without m xs → All (λ x. x < m) xs
+all_below : (m : ℕ) (xs : List ℕ) → AllByRecursion (λ x. x < suc m) xs → Without m xs → AllByRecursion (λ x. x < m) xs
 all_below m [] h k = tt
 all_below m (x ∷ xs) h k = (let a = h.0 in let b = k.0 in omega arith, all_below m xs h.1 k.1)
 
-lower_step : (m x : ℕ) (xs : List ℕ) → x < suc m → All (λ x. x < suc m) xs → Distinct (x ∷ xs) → Dec (x ≡ m) → Lower m xs → Lower m (x ∷ xs)
+lower_step : (m x : ℕ) (xs : List ℕ) → x < suc m → AllByRecursion (λ x. x < suc m) xs → Distinct (x ∷ xs) → Dec (x ≡ m) → Lower m xs → Lower m (x ∷ xs)
 lower_step m x xs h k d (yes e) r = record { rest = xs; below = all_below m xs k (subst (λ y. Without y xs) e d.0); distinct = d.1; size = omega arith; fewer = λ z w. w.1 }
 lower_step m x xs h k d (no e) r = record { rest = x ∷ r.rest; below = (omega arith, r.below); distinct = (r.fewer x d.0, r.distinct); size = let s = r.size in omega arith; fewer = λ z w. (w.0, r.fewer z w.1) }
 
-lower : (m : ℕ) (xs : List ℕ) → All (λ x. x < suc m) xs → Distinct xs → Lower m xs
+lower : (m : ℕ) (xs : List ℕ) → AllByRecursion (λ x. x < suc m) xs → Distinct xs → Lower m xs
 lower m [] h d = record { rest = []; below = tt; distinct = tt; size = omega arith; fewer = λ z w. tt }
 lower m (x ∷ xs) h d = lower_step m x xs h.0 h.1 d (ℕ_discrete x m) (lower m xs h.1 d.1)
 
-distinct_short : (m : ℕ) (xs : List ℕ) → All (λ x. x < m) xs → Distinct xs → length xs ≤ m
+distinct_short : (m : ℕ) (xs : List ℕ) → AllByRecursion (λ x. x < m) xs → Distinct xs → length xs ≤ m
 distinct_short zero [] h d = omega arith
 distinct_short zero (x ∷ xs) h d = absurd (let k = h.0 in omega arith)
 distinct_short (suc m) xs h d = let r = lower m xs h d in let s = distinct_short m r.rest r.below r.distinct in let t = r.size in omega arith
 
-pub pigeonhole : (m : ℕ) (xs : List ℕ) → All (λ x. x < m) xs → m < length xs → Repeat xs
+pub pigeonhole : (m : ℕ) (xs : List ℕ) → AllByRecursion (λ x. x < m) xs → m < length xs → Repeat xs
 pigeonhole m xs h k = go (repeat_or_distinct xs)
   where
     go : Repeat xs ⊎ Distinct xs → Repeat xs

@@ -1,6 +1,6 @@
 -- The octagon's limits, as they are defined from a home and a list of cuts. Assumes nothing.
 use Rattle.std.specs.Prelude.{◌≡◌, ℕ, zero, suc, ◌-◌, ◌*◌, ◌/◌, ◌%◌, ◌<◌, Bool, false, cond, not, ◌&&◌, ◌||◌, List, [], ◌∷◌, map, length, ℤ, pos, ◌+ℤ◌, neg_ℤ, ◌≤ℤ◌, fold, ◌==◌, int_lt, nat_lt}
-use Rattle.std.specs.List.{range_with_len, AllByRecursion as All}
+use Rattle.std.specs.List.{range_with_len, AllByRecursion}
 use Rattle.std.specs.Int.{int_min}
 use Rattle.interface.specs.declared.cut.Cut.{Cut}
 use Rattle.interface.specs.declared.home.Home.{Home}
@@ -32,7 +32,7 @@ chain_sum T p (r ∷ rs) q = T p r +ℤ chain_sum T (opp r) rs q
 
 -- the nodes between the ends of a chain on a line of n settings: at most 2n - 1, each on the line
 abbrev pub Between : ℕ → List ℕ → Type 0
-Between n rs = (length rs < 2 * n) × All (λ r. r < 2 * n) rs
+Between n rs = (length rs < 2 * n) × AllByRecursion (λ r. r < 2 * n) rs
 
 -- z is the least sum of a chain from p to q: no chain's sum is lower, and some chain's sum is z
 pub record LeastSum (n : ℕ) (T : ℕ → ℕ → ℤ) (p q : ℕ) (z : ℤ) : Type 0 where

@@ -2,7 +2,7 @@
 use Rattle.std.proofs.Common.{◌≡◌, ℕ, zero, suc, ◌≤◌, Bool, true, false, cond, leb, List, [], ◌∷◌, ◌++◌, length, drop, Some, None, Ok, Err, Option, Result, sym, refl, ap, ◌∙◌, subst, arith}
 use Rattle.std.proofs.ByRecursion.{All-push}
 use Rattle.std.proofs.lemmas.List.{length_push}
-use Rattle.std.specs.List.{AllByRecursion as All}
+use Rattle.std.specs.List.{AllByRecursion}
 use Rattle.interface.specs.declared.fault.FrameFault.{FrameFault}
 use Rattle.interface.specs.declared.fault.RecordFault.{RecordFault}
 use Rattle.interface.specs.declared.fault.RecordFault.TheVariants.{Frame}
@@ -60,7 +60,7 @@ stated_by_rule count (Err f) r d = absurd (ok_err d)
 
 -- rules that pass their checks, at most 32
 abbrev pub Good : ℕ → List AnyRule → Type 0
-Good n rs = All (λ r. any_model.check n r ≡ Ok tt) rs × (length rs ≤ 32)
+Good n rs = AllByRecursion (λ r. any_model.check n r ≡ Ok tt) rs × (length rs ≤ 32)
 
 good_more : (n : ℕ) (left : List ℕ) (rs : List AnyRule) (r : AnyRule) → stated_line n (length rs) left ≡ Ok (Some r) → Good n rs → Good n (rs ++ r ∷ [])
 good_more n left rs r d g =

@@ -1,7 +1,7 @@
 -- Place k of a reading is the pair of nodes k / 16 and k % 16, so the places in their order are the pairs in theirs. Assumes nothing.
 use Rattle.std.proofs.Common.{◌≡◌, ℕ, zero, suc, ◌+◌, ◌*◌, ◌/◌, ◌%◌, ◌<◌, ◌≤◌, Bool, true, false, cond, not, ◌&&◌, eqb, ltb, ◌⊎◌, List, [], ◌∷◌, ◌++◌, ℤ, ◌+ℤ◌, ◌<ℤ◌, sym, refl, ap, ◌∙◌, subst, inl, inr, arith}
 use lib.Signed.{lt_z}
-use Rattle.std.specs.List.{range_with_len, flat_map, ContainsAt as Has, AllByRecursion as All}
+use Rattle.std.specs.List.{range_with_len, flat_map, ContainsAt as Has, AllByRecursion}
 use Rattle.std.proofs.ByRecursion.{All-append, All-weaker, has_get_or, has_append_left, has_append_right}
 use Rattle.std.proofs.lemmas.Int.{ints}
 use Rattle.std.proofs.lemmas.Bool.{and_from, and_parts, cases_lt, cond-true, eqb-false, lt-ltb, ltb-true, ne_eqb, not-true}
@@ -58,23 +58,23 @@ module _ (g : Reading) where
   abbrev IsTold : List ℕ → Type 0
   IsTold f = (p : ℕ) × (q : ℕ) × Told g p q × (f ≡ pair_frame g p q)
 
-  one_told : (k : ℕ) (b : Bool) → pair_written g (k / 16) (k % 16) ≡ b → All IsTold (cond b (frame k ∷ []) [])
+  one_told : (k : ℕ) (b : Bool) → pair_written g (k / 16) (k % 16) ≡ b → AllByRecursion IsTold (cond b (frame k ∷ []) [])
   one_told k true e = ((k / 16, k % 16, written_told (k / 16) (k % 16) e, refl), tt)
   one_told k false e = tt
 
-  all_told : (ks : List ℕ) → All IsTold (flat_map (pair_at g) ks)
+  all_told : (ks : List ℕ) → AllByRecursion IsTold (flat_map (pair_at g) ks)
   all_told [] = tt
   all_told (k ∷ ks) = All-append IsTold (pair_at g k) (flat_map (pair_at g) ks) (one_told k (pair_written g (k / 16) (k % 16)) refl) (all_told ks)
 
   -- from place a on each frame ranks at least a
-  ranked : (m a : ℕ) → All (λ e. a ≤ rank e) (from a m) × Ascending (from a m)
+  ranked : (m a : ℕ) → AllByRecursion (λ e. a ≤ rank e) (from a m) × Ascending (from a m)
   ranked zero a = (tt, tt)
   ranked (suc m) a = by (pair_written g (a / 16) (a % 16)) (ranked m (a + 1))
     where
       here : rank (frame a) ≡ a
       here = omega arith
 
-      by : (b : Bool) → All (λ e. a + 1 ≤ rank e) (from (a + 1) m) × Ascending (from (a + 1) m) → All (λ e. a ≤ rank e) (cond b (frame a ∷ []) [] ++ from (a + 1) m) × Ascending (cond b (frame a ∷ []) [] ++ from (a + 1) m)
+      by : (b : Bool) → AllByRecursion (λ e. a + 1 ≤ rank e) (from (a + 1) m) × Ascending (from (a + 1) m) → AllByRecursion (λ e. a ≤ rank e) (cond b (frame a ∷ []) [] ++ from (a + 1) m) × Ascending (cond b (frame a ∷ []) [] ++ from (a + 1) m)
       by true h = (
         (omega (arith, here), All-weaker (λ e. a + 1 ≤ rank e) (λ e. a ≤ rank e) (λ e lt. omega arith) (from (a + 1) m) h.0),
         (All-weaker (λ e. a + 1 ≤ rank e) (λ e. rank (frame a) < rank e) (λ e lt. omega (arith, here)) (from (a + 1) m) h.0, h.1),

@@ -1,7 +1,7 @@
 -- How many shapes of a list hold a point: over joined and reversed lists. Assumes nothing.
 use Rattle.std.proofs.Common.{◌≡◌, ◌+◌, Bool, true, false, List, [], ◌∷◌, ◌++◌, reverse, ℤ, sym, refl, ap, ◌∙◌, arith}
 use mathlib.Core.List.{reverse_aux}
-use Rattle.std.specs.List.{AllByRecursion as All}
+use Rattle.std.specs.List.{AllByRecursion}
 use Rattle.std.proofs.lemmas.List.{map-append}
 use Rattle.interface.specs.Shapes.{ShapeModel, one_if}
 use Rattle.search_theory.specs.declared.region.Region.{Region}
@@ -16,11 +16,11 @@ pub false_if_not : (b : Bool) → (b ≡ true → ⊥) → b ≡ false
 false_if_not true f = absurd (f refl)
 false_if_not false f = refl
 
-all_onto : {A : Type 0} (P : A → Type 0) (xs ys : List A) → All P xs → All P ys → All P (reverse_aux xs ys)
+all_onto : {A : Type 0} (P : A → Type 0) (xs ys : List A) → AllByRecursion P xs → AllByRecursion P ys → AllByRecursion P (reverse_aux xs ys)
 all_onto P [] ys h k = k
 all_onto P (x ∷ xs) ys h k = all_onto P xs (x ∷ ys) h.1 (h.0, k)
 
-pub all_reverse : {A : Type 0} (P : A → Type 0) (xs : List A) → All P xs → All P (reverse xs)
+pub all_reverse : {A : Type 0} (P : A → Type 0) (xs : List A) → AllByRecursion P xs → AllByRecursion P (reverse xs)
 all_reverse P xs h = all_onto P xs [] h tt
 
 module _ {S : Type 0} (M : ShapeModel S) (x : List ℤ) where

@@ -1,6 +1,6 @@
 -- A run keeps what holds along histories, and what it answers is true of the ledger. Assumes nothing.
 use Rattle.std.proofs.Common.{◌≡◌, ℕ, ◌+◌, ◌≤◌, Bool, true, false, ◌≢◌, ◌⊎◌, ◌↔◌, List, [], ◌∷◌, ◌++◌, reverse, length, take, ℤ, Decides, sym, refl, ap, ◌∙◌, subst, inl, inr, ⊎_elim, arith}
-use Rattle.std.specs.List.{AllByRecursion as All}
+use Rattle.std.specs.List.{AllByRecursion}
 use Rattle.std.proofs.lemmas.Bool.{both_ways}
 use Rattle.interface.specs.Rules.{RuleModel, RuleLaws}
 use Rattle.interface.specs.Shapes.{ShapeModel, ShapeLaws, one_if}
@@ -95,7 +95,7 @@ module _ {S R : Type 0} {M : ShapeModel S} {K : RuleModel R} (L : ShapeLaws M) (
     pub cover : (x : List ℤ) → Fits K l x → how_many M (shapes_of l.search.regions.handed) x + how_many M l.search.regions.waiting x ≡ 1
     cover x fit = (inv.good searching).counts x fit.1 ∙ ap one_if (shape_holds L J l.home inv.passes l.standing x fit.0 fit.1)
 
-    pub sound : All (Sound M K l) l.search.regions.handed
+    pub sound : AllByRecursion (Sound M K l) l.search.regions.handed
     sound = (inv.good searching).handed_fit
 
     -- where nothing waits, nothing was found exactly if no point fits
@@ -113,7 +113,7 @@ module _ {S R : Type 0} {M : ShapeModel S} {K : RuleModel R} (L : ShapeLaws M) (
         is_false true h = absurd (h refl)
         is_false false h = refl
 
-        refuted : (gs : List (Region S)) → All (Sound M K l) gs → ((x : List ℤ) → Fits K l x → ⊥) → gs ≢ [] → ⊥
+        refuted : (gs : List (Region S)) → AllByRecursion (Sound M K l) gs → ((x : List ℤ) → Fits K l x → ⊥) → gs ≢ [] → ⊥
         refuted [] h none some = some refl
         refuted (g ∷ gs) h none some = none (values_of g.point) (h.0.0 (values_of g.point) h.0.1)
 

@@ -1,6 +1,6 @@
 -- The laws of a run: why it ended decides its outcome, and what steps on lists keep, the run keeps. Assumes nothing.
 use Rattle.std.proofs.Common.{◌≡◌, ℕ, ◌+◌, ◌<◌, ◌≤◌, true, ◌≢◌, ◌↔◌, List, [], ◌∷◌, reverse, length, take, ℤ, Ok, Err, Result, sym, refl, ap, ◌∙◌, subst, arith}
-use Rattle.std.specs.List.{AllByRecursion as All}
+use Rattle.std.specs.List.{AllByRecursion}
 use Rattle.std.proofs.ByRecursion.{All-weaker}
 use Rattle.std.proofs.lemmas.List.{reverse-reverse, reverse-append, length-take-le, length_push, length-reverse, same_from_push}
 use Rattle.std.proofs.lemmas.Bool.{or_parts, ltb-false}
@@ -151,11 +151,11 @@ module _ {S R : Type 0} (M : ShapeModel S) (K : RuleModel R) (s : Solving S) (ru
         let w = ap (λ ss. how_many M ss x) waiting_after ∙ how_many_reverse M x (walk M K rs the_run.made begin).waiting in
         omega (arith, e, h, w)
 
-    fitting : All (OnlyFitting M K n rs) (given seen)
-    fitting = subst (All (OnlyFitting M K n rs)) the_run.tied.of_out (All-weaker _ _ (λ g h. (λ x e. (h.0 x e).1, h.1)) _ good_after.handed_fit)
+    fitting : AllByRecursion (OnlyFitting M K n rs) (given seen)
+    fitting = subst (AllByRecursion (OnlyFitting M K n rs)) the_run.tied.of_out (All-weaker _ _ (λ g h. (λ x e. (h.0 x e).1, h.1)) _ good_after.handed_fit)
 
     -- a region that was handed out holds a point that a waiting one held
-    none_given : (gs : List (Region S)) → All (OnlyFitting M K n rs) gs → ((x : List ℤ) → MeetsRules K n rs x → how_many M (shapes_of gs) x ≡ 0) → gs ≡ []
+    none_given : (gs : List (Region S)) → AllByRecursion (OnlyFitting M K n rs) gs → ((x : List ℤ) → MeetsRules K n rs x → how_many M (shapes_of gs) x ≡ 0) → gs ≡ []
     none_given [] h none = refl
     none_given (g ∷ gs) h none =
         let x = values_of g.point in
@@ -169,7 +169,7 @@ module _ {S R : Type 0} (M : ShapeModel S) (K : RuleModel R) (s : Solving S) (ru
         let under = m.1.1.0 in
         let e = m.1.1.1 in
         let list : t ∷ reverse under ≡ (walk M K rs the_run.made begin).waiting = sym (ap reverse e ∙ reverse-append under (t ∷ [])) ∙ waiting_lists in
-        let is_made = subst (All (λ u. Made M u × (M.n u ≡ n) × ((x : List ℤ) → M.holds u x ≡ true → Anywhere x))) (sym list) good_after.waiting_made in
+        let is_made = subst (AllByRecursion (λ u. Made M u × (M.n u ≡ n) × ((x : List ℤ) → M.holds u x ≡ true → Anywhere x))) (sym list) good_after.waiting_made in
         let has_room = subst (Room M most) (sym list) (room_walk L J rs n Anywhere before most the_run.made begin good_before room) in
         let less = split_has_room L J rs n Anywhere before most t (reverse under) is_made.0.0 m.1.2 has_room in
         let a = length-reverse under in

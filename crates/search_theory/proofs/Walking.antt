@@ -1,6 +1,6 @@
 -- Steps on lists keep what holds of the regions: one taken region first, then many steps. Assumes nothing.
 use Rattle.std.proofs.Common.{◌≡◌, ℕ, zero, suc, ◌+◌, ◌<◌, ◌≤◌, true, false, List, [], ◌∷◌, length, ℤ, sym, ap, ◌∙◌, subst, arith}
-use Rattle.std.specs.List.{AllByRecursion as All}
+use Rattle.std.specs.List.{AllByRecursion}
 use Rattle.std.proofs.ByRecursion.{All-push}
 use Rattle.interface.specs.Points.{values_of}
 use Rattle.interface.specs.Rules.{RuleModel, RuleLaws}
@@ -20,8 +20,8 @@ use Rattle.search_theory.proofs.Refining.{refined}
 
 -- what holds of the regions during a search: those that wait are made, have n settings and lie within In; those handed out fit; each fitting point lies in as many regions as c says
 pub record Good {S R : Type 0} (M : ShapeModel S) (K : RuleModel R) (rs : List R) (n : ℕ) (In : List ℤ → Type 0) (c : List ℤ → ℕ) (h : Held S) : Type 0 where
-  pub waiting_made : All (λ s. Made M s × (M.n s ≡ n) × ((x : List ℤ) → M.holds s x ≡ true → In x)) h.waiting
-  pub handed_fit : All (λ g. ((x : List ℤ) → M.holds g.shape x ≡ true → In x × MeetsRules K n rs x) × (M.holds g.shape (values_of g.point) ≡ true)) h.handed
+  pub waiting_made : AllByRecursion (λ s. Made M s × (M.n s ≡ n) × ((x : List ℤ) → M.holds s x ≡ true → In x)) h.waiting
+  pub handed_fit : AllByRecursion (λ g. ((x : List ℤ) → M.holds g.shape x ≡ true → In x × MeetsRules K n rs x) × (M.holds g.shape (values_of g.point) ≡ true)) h.handed
   pub counts : (x : List ℤ) → MeetsRules K n rs x → how_many M (shapes_of h.handed) x + how_many M h.waiting x ≡ c x
 
 -- room is left where the next region is gone

@@ -1,6 +1,6 @@
 -- What holds after any call on any history. Assumes nothing.
 use Rattle.std.specs.Prelude.{◌≡◌, ℕ, ◌+◌, ◌*◌, ◌<◌, true, false, ◌≢◌, ◌↔◌, List, [], ◌++◌, map, reverse, length, take, ℤ, ◌+ℤ◌, ◌≤ℤ◌, Ok, Err, Decides, Result}
-use Rattle.std.specs.List.{AllByRecursion as All}
+use Rattle.std.specs.List.{AllByRecursion}
 use Rattle.interface.specs.declared.fault.SolverFault.{SolverFault}
 use Rattle.interface.specs.declared.fault.SolverFault.TheVariants.{Void}
 use Rattle.interface.specs.declared.home.Home.{Home}
@@ -81,7 +81,7 @@ pub record Kept {S R : Type 0} (M : ShapeModel S) (K : RuleModel R) (c : Called 
   pub put_out : (p : Report) → RunWith c p → c.after.search.regions.handed ≡ c.before.search.regions.handed ++ take p.count c.out
   -- every point that fits lies in exactly one region, handed out or waiting
   pub exact_cover : SearchingNow c → (x : List ℤ) → Fits K c.after x → how_many M (shapes_of c.after.search.regions.handed) x + how_many M c.after.search.regions.waiting x ≡ 1
-  pub sound_regions : SearchingNow c → All (Sound M K c.after) c.after.search.regions.handed
+  pub sound_regions : SearchingNow c → AllByRecursion (Sound M K c.after) c.after.search.regions.handed
   -- at done, nothing was found exactly if no point fits
   pub truthful_found : (p : Report) → RunWith c p → p.outcome ≡ Done → (p.found ≡ false) ↔ ((x : List ℤ) → Fits K c.after x → ⊥)
   -- one place more than the halvings is enough

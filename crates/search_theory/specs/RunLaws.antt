@@ -1,6 +1,6 @@
 -- What a run means, in terms of the regions that wait and those handed out, and of the points that they hold. Assumes nothing.
 use Rattle.std.specs.Prelude.{◌≡◌, ℕ, ◌+◌, ◌<◌, ◌≤◌, Bool, true, ◌≢◌, ◌⊎◌, ◌↔◌, List, [], ◌∷◌, ◌++◌, reverse, length, take, drop, ℤ, Ok}
-use Rattle.std.specs.List.{AllByRecursion as All}
+use Rattle.std.specs.List.{AllByRecursion}
 use Rattle.interface.specs.declared.point.Point.{Point}
 use Rattle.interface.specs.Points.{values_of}
 use Rattle.interface.specs.Rules.{RuleModel}
@@ -17,7 +17,7 @@ use Rattle.search_theory.specs.Walks.{held, walk}
 
 -- regions of n settings that making, cutting or splitting gave
 abbrev pub AllMade : {S : Type 0} → ShapeModel S → ℕ → List S → Type 0
-AllMade M n ss = All (λ s. Made M s × (M.n s ≡ n)) ss
+AllMade M n ss = AllByRecursion (λ s. Made M s × (M.n s ≡ n)) ss
 
 -- every point that the region holds meets the rules, and it holds its own
 abbrev pub OnlyFitting : {S R : Type 0} → ShapeModel S → RuleModel R → ℕ → List R → Region S → Type 0
@@ -75,7 +75,7 @@ module _ {S R : Type 0} (M : ShapeModel S) (K : RuleModel R) where
     pub still_made : AllMade M n r.waiting_after
     -- each point that meets the rules lies in as many regions as before
     pub same_counts : (x : List ℤ) → MeetsRules K n r.rules x → how_many M (shapes_of (given r)) x + how_many M r.waiting_after x ≡ how_many M r.waiting x
-    pub only_fitting : All (OnlyFitting M K n r.rules) (given r)
+    pub only_fitting : AllByRecursion (OnlyFitting M K n r.rules) (given r)
     -- at done, a region was handed out exactly if a waiting one held a point that meets the rules
     pub truly_found : r.report.outcome ≡ Done → (given r ≡ []) ↔ ((x : List ℤ) → MeetsRules K n r.rules x → how_many M r.waiting x ≡ 0)
     -- with a place more than most the stack does not fill

@@ -2,7 +2,7 @@
 use Rattle.std.proofs.Common.{◌≡◌, ℕ, ◌+◌, ◌<◌, ◌≤◌, Bool, true, false, not, ◌||◌, eqb, leb, ◌≢◌, ◌↔◌, List, [], ◌∷◌, ◌++◌, map, reverse, length, take, set, ℤ, Ok, Result, sym, refl, ap, ◌∙◌, subst, append_assoc, arith, length-set, length-take}
 use Rattle.std.proofs.lemmas.List.{append-nil, length_push, reverse-reverse}
 use Rattle.std.proofs.lemmas.Bool.{le-ltb, lt-leb, ne_eqb, or_from, le-leb, and_from}
-use Rattle.std.specs.List.{AllByRecursion as All}
+use Rattle.std.specs.List.{AllByRecursion}
 use Rattle.interface.specs.declared.fault.RecordFault.{RecordFault}
 use Rattle.interface.specs.declared.fault.SolverFault.TheVariants.{Phase, Short, Rules, Stack}
 use Rattle.interface.specs.declared.home.Home.{Home}
@@ -88,7 +88,7 @@ module _ {S R : Type 0} {M : ShapeModel S} {K : RuleModel R} (L : ShapeLaws M) (
         )
 
     -- every rule stands
-    all_stated : (rs : List R) (l : Ledger S R) (w : World S R) (done all : List R) → Ready l w done → done ++ rs ≡ all → All (λ r. K.check h.n r ≡ Ok tt) rs → length done + length rs ≤ 32 → length done + length rs ≤ length m.rules → (l' : Ledger S R) × Ready l' (after_calls M K w m.out (map State rs)) all
+    all_stated : (rs : List R) (l : Ledger S R) (w : World S R) (done all : List R) → Ready l w done → done ++ rs ≡ all → AllByRecursion (λ r. K.check h.n r ≡ Ok tt) rs → length done + length rs ≤ 32 → length done + length rs ≤ length m.rules → (l' : Ledger S R) × Ready l' (after_calls M K w m.out (map State rs)) all
     all_stated [] l w done all y e checks few places =
         (l, record { history = y.history; of_home = y.of_home; of_standing = y.of_standing ∙ sym (append-nil done) ∙ e; of_phase = y.of_phase; of_rules = y.of_rules; of_stack = y.of_stack })
     all_stated (r ∷ rs) l w done all y e checks few places =
@@ -183,9 +183,9 @@ module _ {S R : Type 0} {M : ShapeModel S} {K : RuleModel R} (L : ShapeLaws M) (
           let front = kept.ties.of_stack in
           none_left _ (sym front.1 ∙ ap (take a.world.solver.waiting) (append-nil a.world.stack) ∙ empty)
 
-      is_sound : All (λ g. ((x : List ℤ) → M.holds g.shape x ≡ true → Setting K h rs x) × (M.holds g.shape (values_of g.point) ≡ true)) (take ending.work.count a.out)
+      is_sound : AllByRecursion (λ g. ((x : List ℤ) → M.holds g.shape x ≡ true → Setting K h rs x) × (M.holds g.shape (values_of g.point) ≡ true)) (take ending.work.count a.out)
       is_sound =
-          let P : Home → List R → List (Region S) → Type 0 = λ b st gs. All (λ g. ((x : List ℤ) → M.holds g.shape x ≡ true → Setting K b st x) × (M.holds g.shape (values_of g.point) ≡ true)) gs in
+          let P : Home → List R → List (Region S) → Type 0 = λ b st gs. AllByRecursion (λ g. ((x : List ℤ) → M.holds g.shape x ≡ true → Setting K b st x) × (M.holds g.shape (values_of g.point) ≡ true)) gs in
           subst (P h rs) is_handed (subst (λ st. P h st c.after.search.regions.handed) is_standing (subst (λ b. P b c.after.standing c.after.search.regions.handed) is_home (kept.sound_regions searching)))
 
       is_covered : ending.outcome ≡ Done → (x : List ℤ) → Setting K h rs x → how_many M (shapes_of (take ending.work.count a.out)) x ≡ 1

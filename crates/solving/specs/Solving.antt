@@ -1,6 +1,6 @@
 -- The calls that solve a problem, one after the other, and what is true of their answer. Assumes nothing.
 use Rattle.std.specs.Prelude.{◌≡◌, ℕ, ◌+◌, ◌<◌, ◌≤◌, true, false, ◌≢◌, ◌↔◌, List, [], ◌∷◌, map, length, take, ℤ, Ok}
-use Rattle.std.specs.List.{AllByRecursion as All}
+use Rattle.std.specs.List.{AllByRecursion}
 use Rattle.interface.specs.declared.home.Home.{Home}
 use Rattle.interface.specs.Homes.{InHome, Passes}
 use Rattle.interface.specs.Points.{values_of}
@@ -31,7 +31,7 @@ pub record Slices (S R : Type 0) : Type 0 where
 -- what is true of a run's report p and of the regions that it handed out
 pub record TrueOf {S R : Type 0} (M : ShapeModel S) (K : RuleModel R) (h : Home) (rs : List R) (places : ℕ) (p : Report) (handed : List (Region S)) : Type 0 where
   -- every point that a region holds is a setting that meets the rules, and its own point is one
-  pub sound : All (λ g. ((x : List ℤ) → M.holds g.shape x ≡ true → Setting K h rs x) × (M.holds g.shape (values_of g.point) ≡ true)) handed
+  pub sound : AllByRecursion (λ g. ((x : List ℤ) → M.holds g.shape x ≡ true → Setting K h rs x) × (M.holds g.shape (values_of g.point) ≡ true)) handed
   -- at done, each setting that meets the rules lies in exactly one region
   pub cover : p.outcome ≡ Done → (x : List ℤ) → Setting K h rs x → how_many M (shapes_of handed) x ≡ 1
   -- at done, nothing was found exactly if there is no such setting
@@ -62,7 +62,7 @@ module _ {S R : Type 0} (M : ShapeModel S) (K : RuleModel R) where
   -- a home and rules that pass their checks, and places for them
   pub record Solvable (h : Home) (m : Slices S R) (rs : List R) : Type 0 where
     pub home_passes : Passes h
-    pub rules_pass : All (λ r. K.check h.n r ≡ Ok tt) rs
+    pub rules_pass : AllByRecursion (λ r. K.check h.n r ≡ Ok tt) rs
     pub few : length rs ≤ 32
     pub places : length rs ≤ length m.rules
     pub some_stack : 0 < length m.stack

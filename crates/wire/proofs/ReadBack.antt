@@ -1,6 +1,6 @@
 -- A line that was written is all digits up to its line feed, so the reader finds it and accepts it. Assumes nothing.
 use Rattle.std.proofs.Common.{◌≡◌, ℕ, suc, ◌+◌, ◌*◌, ◌/◌, ◌%◌, ◌<◌, ◌≤◌, Bool, true, false, ◌||◌, eqb, ltb, List, [], ◌∷◌, ◌++◌, length, take, Some, Ok, refl, ap, ◌∙◌, arith}
-use Rattle.std.specs.List.{prefix_len, AllByRecursion as All}
+use Rattle.std.specs.List.{prefix_len, AllByRecursion}
 use Rattle.std.proofs.ByRecursion.{All-weaker}
 use Rattle.std.proofs.lemmas.List.{append_assoc, length-append, take_at}
 use Rattle.std.proofs.lemmas.Bool.{cond-true, cond-false, lt-ltb, le-ltb, ne_eqb, or_from}
@@ -13,22 +13,22 @@ use Rattle.wire.proofs.Hex.{digit_is, length_hex, unhex_hex}
 leading_one : (p : ℕ → Bool) (x : ℕ) (xs : List ℕ) → p x ≡ true → prefix_len p (x ∷ xs) ≡ suc (prefix_len p xs)
 leading_one p x xs e = cond-true (p x) (1 + prefix_len p xs) 0 e ∙ omega arith
 
-leading_all : (p : ℕ → Bool) (xs : List ℕ) → All (λ x. p x ≡ true) xs → prefix_len p xs ≡ length xs
+leading_all : (p : ℕ → Bool) (xs : List ℕ) → AllByRecursion (λ x. p x ≡ true) xs → prefix_len p xs ≡ length xs
 leading_all p [] a = refl
 leading_all p (x ∷ xs) a = leading_one p x xs a.0 ∙ ap suc (leading_all p xs a.1)
 
-leading_at : (p : ℕ → Bool) (xs : List ℕ) (y : ℕ) (ys : List ℕ) → All (λ x. p x ≡ true) xs → p y ≡ false → prefix_len p (xs ++ y ∷ ys) ≡ length xs
+leading_at : (p : ℕ → Bool) (xs : List ℕ) (y : ℕ) (ys : List ℕ) → AllByRecursion (λ x. p x ≡ true) xs → p y ≡ false → prefix_len p (xs ++ y ∷ ys) ≡ length xs
 leading_at p [] y ys a e = cond-false (p y) (1 + prefix_len p ys) 0 e
 leading_at p (x ∷ xs) y ys a e = leading_one p x (xs ++ y ∷ ys) a.0 ∙ ap suc (leading_at p xs y ys a.1 e)
 
-hex_digits : (bs : List ℕ) → All (λ b. b < 256) bs → All (λ d. is_digit d ≡ true) (hex bs)
+hex_digits : (bs : List ℕ) → AllByRecursion (λ b. b < 256) bs → AllByRecursion (λ d. is_digit d ≡ true) (hex bs)
 hex_digits [] a = tt
 hex_digits (b ∷ bs) a = (digit_is (b / 16) (omega (arith, a.0)), (digit_is (b % 16) (omega arith), hex_digits bs a.1))
 
 digit_no_feed : (d : ℕ) → is_digit d ≡ true → no_feed d ≡ true
 digit_no_feed d e = grind (arith, nat_tests)
 
-module _ (bs : List ℕ) (small : All (λ b. b < 256) bs) (some : 0 < length bs) (short : length bs ≤ 66) where
+module _ (bs : List ℕ) (small : AllByRecursion (λ b. b < 256) bs) (some : 0 < length bs) (short : length bs ≤ 66) where
   abbrev n : ℕ
   n = length (hex bs)
 
@@ -68,5 +68,5 @@ module _ (bs : List ℕ) (small : All (λ b. b < 256) bs) (some : 0 < length bs)
         ∙ (λ i. line_answer (line_check (line i) (feed i)) (line i))
         ∙ ap (λ r. line_answer r (hex bs)) passes
 
-pub reads_back : (bs : List ℕ) → All (λ b. b < 256) bs → ReadsBack bs
+pub reads_back : (bs : List ℕ) → AllByRecursion (λ b. b < 256) bs → ReadsBack bs
 reads_back bs small some short left = (back bs small some short left, unhex_hex bs small)
