@@ -1,4 +1,4 @@
-// The entry point that C calls: bytes and numbers in, bytes and their count out.
+// The entry point: bytes and numbers in, bytes and their count out. C calls it through the static library offsets_c.
 ghost use Rattle.std.specs.Prelude.{◌≡◌, ◌≤◌, length, Ok};
 ghost use Rattle.octagon.specs.Octagons.{octagon_model};
 ghost use Rattle.offsets.specs.Entry.{entry_frames, problem_frames, opened_frames, room_in};
@@ -31,8 +31,7 @@ fn answer_into(input: &[u8], budget: u32, output: &mut [u8]) -> usize
 
 // Solves the problem that a text states with at most so many steps, and writes the lines that answer it from the
 // output's front on; 0 and nothing written where the output has fewer than 1,897 bytes.
-#[unsafe(no_mangle)]
-pub extern "C" fn offsets_solve(input: &[u8], budget: u32, output: &mut [u8]) -> usize
+pub fn offsets_solve(input: &[u8], budget: u32, output: &mut [u8]) -> usize
     ensures count { result ≡ entry_count octagon_model input.now budget (length output.old) }
     ensures writes { output.new ≡ entry_output octagon_model input.now budget output.old }
     ensures bound { result ≤ length output.old }
