@@ -15,14 +15,14 @@ trap 'rm -rf "$work"' EXIT
 kit=$(dirname "$(dirname "$(rt doc)")")
 kit_clang() { "$kit/toolchain/bin/clang" -O3 -Wall -Wextra -isystem "$(gcc -print-file-name=include)" "$@"; }
 library=target/staticlib/liboffsets.a
-if [ ! -e "$library" ] || [ -n "$(find crates -newer "$library" -print -quit)" ]; then
-    $rt staticlib offsets >"$work/said" 2>&1 || { cat "$work/said"; exit 1; }
-fi
+(cd crates/offsets_c && $rt lib) >"$work/said" 2>&1 || { cat "$work/said"; exit 1; }
+mkdir -p target/staticlib
+cp crates/offsets_c/out/liboffsets_c.a "$library"
 kit_clang -c -o "$work/plain.o" bench/plain/plain.c
 gcc -O2 -Wall -Wextra -c -o "$work/plain_gcc.o" bench/plain/plain.c
 gcc -O2 -Wall -Wextra -c -o "$work/harness.o" bench/harness.c
 linked() { gcc -Wl,-z,now -o "$work/$1" "$work/harness.o" "${@:2}"; } # bound at the start, so that no call counts the linker
-linked ours "$library" "$kit/lib/librattle_c.a"
+linked ours "$library"
 linked plain "$work/plain.o"
 linked plain_gcc "$work/plain_gcc.o"
 
@@ -36,17 +36,18 @@ echo "$("$kit/toolchain/bin/clang" --version | head -1); $(z3 --version); $(npro
 python3 bench/table.py "$work"
 
 # A cut of eight settings: ten random cuts on a fresh octagon, drawing and copying counted on both sides.
-if [ -x target/bin/octagon_trials ]; then
+trials=crates/octagon_trials/out/octagon_trials
+if [ -x "$trials" ]; then
     kit_clang -c -o "$work/cuts.o" bench/cuts.c
     gcc -o "$work/cuts" "$work/cuts.o"
     count() { # program, thousands of cuts
         head -c "$2" /dev/zero | valgrind --tool=callgrind --callgrind-out-file="$work/callgrind" "$1" 2>&1 >/dev/null | sed -n 's/.*Collected : *//p'
     }
     each() { echo $(( ($(count "$1" 25) - $(count "$1" 5)) / 20000 )); }
-    ours=$(each target/bin/octagon_trials)
+    ours=$(each "$trials")
     plain=$(each "$work/cuts")
     echo "instructions a cut: ours $ours, plain C $plain, ratio $(awk "BEGIN { printf \"%.2f\", $ours / $plain }")"
 else
-    echo "a cut alone was not counted: rt check octagon_trials first"
+    echo "a cut alone was not counted: rt run in crates/octagon_trials first"
 fi
 size -t "$library" | tail -1 | awk '{ print "liboffsets.a: " $1 " bytes of code and constants, " $2 + $3 " of data" }'

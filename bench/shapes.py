@@ -3,14 +3,14 @@
 
 usage: shapes.py FILE..    for each problem two lines, octagon and box: name, shape, outcome, steps, regions
 
-Both are runs of the proved solver in the program calls (`rt check calls`): open at the shape, state each rule, begin, run
+Both are runs of the proved solver in a program calls (`rt run` in its folder), which is not in this repository yet: open at the shape, state each rule, begin, run
 once, with the entry point's budget and places. Without that program nothing is written.
 """
 import pathlib
 import subprocess
 import sys
 
-CALLS = pathlib.Path(__file__).resolve().parent.parent / "target/bin/calls"
+CALLS = pathlib.Path(__file__).resolve().parent.parent / "crates/calls/out/calls"
 SHAPES = {"octagon": "00", "box": "01"}
 BUDGET, PLACES, ROOM = 10_000, 169, 16
 

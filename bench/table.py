@@ -135,7 +135,7 @@ def main():
         measure(problem, both, ratios)
     tell_means(ratios)
     if not both:
-        print("the box was not run: rt check calls first")
+        print("the box was not run: there is no program crates/calls")
 
 
 if __name__ == "__main__":

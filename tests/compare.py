@@ -1,7 +1,7 @@
 #!/usr/bin/env python3
 """Random texts, sound and damaged, answered by the built program and by tests/reference.py, compared byte by byte.
 
-usage: compare.py COUNT [SEED]     after `rt check texts`; prints how many differ
+usage: compare.py COUNT [SEED]     after `rt run` in crates/texts; prints how many differ
 """
 import random
 import subprocess
@@ -50,7 +50,7 @@ def main():
         text = problem(rng)
         texts.append(damaged(rng, text) if rng.random() < 0.3 else text)
     answers = [solve(text) for text in texts]
-    ours = subprocess.run(["target/bin/texts"], input="".join(t.hex().upper() + "\n" for t in texts).encode(), capture_output=True, check=True).stdout.decode()
+    ours = subprocess.run(["crates/texts/out/texts"], input="".join(t.hex().upper() + "\n" for t in texts).encode(), capture_output=True, check=True).stdout.decode()
     at = differ = 0
     for text, answer in zip(texts, answers):
         if ours[at:at + len(answer)] != answer:
