@@ -12,7 +12,7 @@ work=$(mktemp -d)
 trap 'rm -rf "$work"' EXIT
 
 # The plain version goes through the compiler that rt compiles with, which brings no headers of its own.
-kit=$(dirname "$(dirname "$(rt doc)")")
+kit=$(dirname "$(rt doc)")
 kit_clang() { "$kit/toolchain/bin/clang" -O3 -Wall -Wextra -isystem "$(gcc -print-file-name=include)" "$@"; }
 library=target/staticlib/liboffsets.a
 (cd crates/offsets_c && $rt lib) >"$work/said" 2>&1 || { cat "$work/said"; exit 1; }
