@@ -9,10 +9,16 @@ import os
 import re
 import sys
 
-LETTER = r"A-Za-z0-9_'\u2032"
+LETTER = r"A-Za-z0-9_'\u2032+"
 NAME = rf"[A-Za-z][{LETTER}-]*"
 TOP = re.compile(rf"^\s*(?:(?:abbrev|unfoldable|pub|data|record) )*({NAME}) *(?:[{{(][^:]*:[^:]*)*: *(.*)")
-OTHERWISE = {"nat-abs": "pos_unsigned_abs"}  # Rattle's library has nat_abs
+# Rattle's library has nat_abs; getD is now get_or; ++ is not a word
+OTHERWISE = {
+    "nat-abs": "pos_unsigned_abs",
+    "get_d_part": "get_or_part",
+    "first-fault-++": "first_fault_append",
+    "hex-++": "hex_append",
+}
 GOAL = re.compile(r"(goal|need|given)\.")
 
 
@@ -57,7 +63,7 @@ def main():
     dry = "--dry" in sys.argv[1:]
     names = own()
     taken = borrowed()
-    dashed = sorted(n for n in names if "-" in n)
+    dashed = sorted(n for n in names if "-" in n or n in OTHERWISE)
     left = [n for n in dashed if n in taken]
     turned = {n: spelled(n) for n in dashed if n not in taken}
     words = set()

@@ -7,9 +7,9 @@ counting_more : (k n : ℕ) → k < n → range_with_len k (n - k) ≡ k ∷ ran
 counting_more k n h = let e : n - k ≡ suc (n - (k + 1)) = omega arith in ap (range_with_len k) e
 
 -- grounds in front of others decide first
-pub first-fault-++ : {F : Type 0} (gs hs : List (Bool × F)) → first_fault (gs ++ hs) ≡ next (first_fault gs) (first_fault hs)
-first-fault-++ [] hs = refl
-first-fault-++ (g ∷ gs) hs = by g.0 (first-fault-++ gs hs)
+pub first_fault_append : {F : Type 0} (gs hs : List (Bool × F)) → first_fault (gs ++ hs) ≡ next (first_fault gs) (first_fault hs)
+first_fault_append [] hs = refl
+first_fault_append (g ∷ gs) hs = by g.0 (first_fault_append gs hs)
   where
     by : (b : Bool) → first_fault (gs ++ hs) ≡ next (first_fault gs) (first_fault hs) → first_fault ((b, g.1) ∷ (gs ++ hs)) ≡ next (first_fault ((b, g.1) ∷ gs)) (first_fault hs)
     by true e = refl
@@ -20,4 +20,4 @@ module _ {F : Type 0} (g : ℕ → List (Bool × F)) (k n : ℕ) where
   left i = first_fault (flat_map g (range_with_len i (n - i)))
 
   pub grounds_more : k < n → (r : Result (Unit {0}) F) → first_fault (g k) ≡ r → left k ≡ next r (left (k + 1))
-  grounds_more h r e = ap (λ ks. first_fault (flat_map g ks)) (counting_more k n h) ∙ first-fault-++ (g k) _ ∙ ap (λ q. next q (left (k + 1))) e
+  grounds_more h r e = ap (λ ks. first_fault (flat_map g ks)) (counting_more k n h) ∙ first_fault_append (g k) _ ∙ ap (λ q. next q (left (k + 1))) e

@@ -9,7 +9,7 @@ use Rattle.interface.specs.declared.home.Home.{Home}
 use Rattle.interface.specs.Grounds.{first_fault, next}
 use Rattle.interface.specs.Homes.{low_of, high_of, range_grounds, crossed_grounds, settings_grounds, Passes}
 use Rattle.interface.specs.Numbers.{within}
-use Rattle.interface.proofs.Grounds.{first-fault-++}
+use Rattle.interface.proofs.Grounds.{first_fault_append}
 
 next_parts : {F : Type 0} (r q : Result (Unit {0}) F) → next r q ≡ Ok tt → (r ≡ Ok tt) × (q ≡ Ok tt)
 next_parts (Ok u) q e = (refl, e)
@@ -24,8 +24,8 @@ module _ {F : Type 0} (g : ℕ → List (Bool × F)) where
   -- every setting's grounds are accepted
   each_passes : (ks : List ℕ) → first_fault (flat_map g ks) ≡ Ok tt → (i : ℕ) → i < length ks → first_fault (g (get_or ks i 0)) ≡ Ok tt
   each_passes [] e i h = absurd (omega arith)
-  each_passes (k ∷ ks) e zero h = (next_parts (first_fault (g k)) (first_fault (flat_map g ks)) (sym (first-fault-++ (g k) (flat_map g ks)) ∙ e)).0
-  each_passes (k ∷ ks) e (suc i) h = each_passes ks (next_parts (first_fault (g k)) (first_fault (flat_map g ks)) (sym (first-fault-++ (g k) (flat_map g ks)) ∙ e)).1 i (omega arith)
+  each_passes (k ∷ ks) e zero h = (next_parts (first_fault (g k)) (first_fault (flat_map g ks)) (sym (first_fault_append (g k) (flat_map g ks)) ∙ e)).0
+  each_passes (k ∷ ks) e (suc i) h = each_passes ks (next_parts (first_fault (g k)) (first_fault (flat_map g ks)) (sym (first_fault_append (g k) (flat_map g ks)) ∙ e)).1 i (omega arith)
 
   each_below : (n : ℕ) → first_fault (flat_map g (range_with_len 0 n)) ≡ Ok tt → (k : ℕ) → k < n → first_fault (g k) ≡ Ok tt
   each_below n e k h = subst (λ i. first_fault (g i) ≡ Ok tt) (get_or-range_with_len 0 n k 0 h ∙ omega arith) (each_passes (range_with_len 0 n) e k (omega (arith, length-range_with_len 0 n)))

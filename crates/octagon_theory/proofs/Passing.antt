@@ -9,7 +9,7 @@ use Rattle.interface.specs.Grounds.{first_fault, next}
 use Rattle.interface.specs.Homes.{low_of, high_of, range_grounds, crossed_grounds, settings_grounds, Passes}
 use Rattle.interface.specs.Nodes.{opp}
 use Rattle.interface.specs.Numbers.{within}
-use Rattle.interface.proofs.Grounds.{first-fault-++}
+use Rattle.interface.proofs.Grounds.{first_fault_append}
 use Rattle.octagon_theory.specs.Limits.{top_of}
 use Rattle.octagon_theory.proofs.Entries.{by_node, top_even, top_odd}
 use Rattle.octagon_theory.proofs.Exact.{at_each}
@@ -28,7 +28,7 @@ none_holds (g ∷ gs) e = by g.0 refl e (none_holds gs)
 
 each_passes : {F : Type 0} (g : ℕ → List (Bool × F)) (ks : List ℕ) → first_fault (flat_map g ks) ≡ Ok tt → AllByRecursion (λ k. first_fault (g k) ≡ Ok tt) ks
 each_passes g [] e = tt
-each_passes g (k ∷ ks) e = let b = next_both (first_fault (g k)) (first_fault (flat_map g ks)) (sym (first-fault-++ (g k) (flat_map g ks)) ∙ e) in (b.0, each_passes g ks b.1)
+each_passes g (k ∷ ks) e = let b = next_both (first_fault (g k)) (first_fault (flat_map g ks)) (sym (first_fault_append (g k) (flat_map g ks)) ∙ e) in (b.0, each_passes g ks b.1)
 
 within_both : (b : ℕ) (z : ℤ) → within b z ≡ true → (neg_ℤ (pos b) ≤ℤ z) × (z ≤ℤ pos b)
 within_both b z e = let p = and_parts (le_z (neg_ℤ (pos b)) z) (le_z z (pos b)) e in let l = p.0 in let r = p.1 in (omega (arith, ints), omega (arith, ints))

@@ -26,9 +26,9 @@ pub length_hex : (bs : List ℕ) → length (hex bs) ≡ 2 * length bs
 length_hex [] = refl
 length_hex (b ∷ bs) = omega (arith, length_hex bs)
 
-pub hex-++ : (bs cs : List ℕ) → hex (bs ++ cs) ≡ hex bs ++ hex cs
-hex-++ [] cs = refl
-hex-++ (b ∷ bs) cs = rw (hex-++ bs cs)
+pub hex_append : (bs cs : List ℕ) → hex (bs ++ cs) ≡ hex bs ++ hex cs
+hex_append [] cs = refl
+hex_append (b ∷ bs) cs = rw (hex_append bs cs)
 
 -- a digit and what it is worth, both ways
 value_digit : (v : ℕ) → v < 16 → digit_value (digit_of v) ≡ v

@@ -3,7 +3,7 @@ use Rattle.std.proofs.Common.{◌≡◌, ℕ, ◌+◌, ◌*◌, ◌/◌, ◌%◌
 use Rattle.std.proofs.lemmas.List.{append_assoc, take-append-drop, drop_more, set_at, take_more, length_push, length-append, length-take-le}
 use Rattle.wire.specs.Bytes.{hex, digit_of}
 use Rattle.wire.specs.Output.{written, line_of}
-use Rattle.wire.proofs.Hex.{length_hex, hex-++}
+use Rattle.wire.proofs.Hex.{length_hex, hex_append}
 
 pub written_none : (d : List ℕ) (i : ℕ) → d ≡ written d i []
 unfolding written
@@ -27,7 +27,7 @@ put_more d at bs i out room h e =
     let long : length s ≡ 2 * i = length_hex (take i bs) ∙ ap (λ z. 2 * z) (length-take-le i bs (omega arith)) in
     let one : set out (at + 2 * i) x ≡ written d at (s ++ x ∷ []) = ap (λ z. set z (at + 2 * i) x) e ∙ written_more d at s x (at + 2 * i) (omega arith) (omega arith) in
     let two : set (written d at (s ++ x ∷ [])) (at + 2 * i + 1) y ≡ written d at ((s ++ x ∷ []) ++ y ∷ []) = written_more d at (s ++ x ∷ []) y (at + 2 * i + 1) (omega (arith, length_push s x)) (omega arith) in
-    ap (λ z. set z (at + 2 * i + 1) y) one ∙ two ∙ ap (written d at) (append_assoc s (x ∷ []) (y ∷ []) ∙ sym (ap hex (take_more bs i 0 h) ∙ hex-++ (take i bs) (get_or bs i 0 ∷ [])))
+    ap (λ z. set z (at + 2 * i + 1) y) one ∙ two ∙ ap (written d at) (append_assoc s (x ∷ []) (y ∷ []) ∙ sym (ap hex (take_more bs i 0 h) ∙ hex_append (take i bs) (get_or bs i 0 ∷ [])))
 
 pub put_feed : (d : List ℕ) (at : ℕ) (bs : List ℕ) (out : List ℕ) → at + 2 * length bs < length d → out ≡ written d at (hex bs) → set out (at + 2 * length bs) 10 ≡ written d at (line_of bs)
 put_feed d at bs out room e = ap (λ z. set z (at + 2 * length bs) 10) e ∙ written_more d at (hex bs) 10 (at + 2 * length bs) (omega (arith, length_hex bs)) room

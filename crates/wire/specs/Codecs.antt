@@ -33,13 +33,13 @@ pub small_part : (w i : ℕ) (bs : List ℕ) → AllByRecursion (λ b. b < 256) 
 small_part zero i bs a = tt
 small_part (suc w) i bs a = (byte_small bs i a, small_part w (i + 1) bs a)
 
-pub get_d_part : (w i : ℕ) (bs : List ℕ) (r : ℕ) → r < w → slice_index (part w i bs) r ≡ slice_index bs (i + r)
-get_d_part zero i bs r h = absurd (omega arith)
-get_d_part (suc w) i bs zero h = ap (λ k. slice_index bs k) (omega arith)
-get_d_part (suc w) i bs (suc r) h = get_d_part w (i + 1) bs r (omega arith) ∙ ap (λ k. slice_index bs k) (omega arith)
+pub get_or_part : (w i : ℕ) (bs : List ℕ) (r : ℕ) → r < w → slice_index (part w i bs) r ≡ slice_index bs (i + r)
+get_or_part zero i bs r h = absurd (omega arith)
+get_or_part (suc w) i bs zero h = ap (λ k. slice_index bs k) (omega arith)
+get_or_part (suc w) i bs (suc r) h = get_or_part w (i + 1) bs r (omega arith) ∙ ap (λ k. slice_index bs k) (omega arith)
 
 pub part_is : (w i : ℕ) (bs q : List ℕ) → length q ≡ w → ((r : ℕ) → r < w → slice_index bs (i + r) ≡ slice_index q r) → part w i bs ≡ q
-part_is w i bs q long same = ext_get_or 0 (part w i bs) q (length_part w i bs ∙ sym long) (λ r h. get_d_part w i bs r (omega (arith, length_part w i bs)) ∙ same r (omega (arith, length_part w i bs)))
+part_is w i bs q long same = ext_get_or 0 (part w i bs) q (length_part w i bs ∙ sym long) (λ r h. get_or_part w i bs r (omega (arith, length_part w i bs)) ∙ same r (omega (arith, length_part w i bs)))
 
 -- a part and what follows it
 part_drop : (w i : ℕ) (bs : List ℕ) → i + w ≤ length bs → part w i bs ++ drop (i + w) bs ≡ drop i bs

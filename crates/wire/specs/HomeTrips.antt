@@ -17,7 +17,7 @@ use Rattle.wire.specs.Bytes.{be, val}
 use Rattle.wire.specs.Frames.{FrameLaws, Accepted, field}
 use Rattle.wire.specs.HomeFrame.{word_at, word_byte, range_byte, home_byte, first_or_0, eight, write_home, read_home, counted_home, home_frame}
 use Rattle.wire.specs.BigEndian.{small_be, val_be}
-use Rattle.wire.specs.Codecs.{write_one, get_d_part, part_is, byte_small}
+use Rattle.wire.specs.Codecs.{write_one, get_or_part, part_is, byte_small}
 use Rattle.wire.specs.Passing.{settings_ok, low_fits, high_fits, joined_same}
 
 -- the places of a home frame: its code, n, and the bytes of lows and highs
@@ -126,7 +126,7 @@ module _ (n : ℕ) (bs : List ℕ) (a : Accepted home_frame n bs) where
   top = (settings_ok h a.passes).1
 
   word_again : (i : ℕ) (z : ℤ) (r : ℕ) → r < 4 → z ≡ word_at bs i → word_byte z r ≡ slice_index bs (i + r)
-  word_again i z r small e = ap (λ y. word_byte y r) e ∙ ap (λ q. slice_index q r) (write_one (field i w32 true) bs a.small) ∙ get_d_part 4 i bs r small
+  word_again i z r small e = ap (λ y. word_byte y r) e ∙ ap (λ q. slice_index q r) (write_one (field i w32 true) bs a.small) ∙ get_or_part 4 i bs r small
 
   byte_again : (j : ℕ) → j < 2 + 8 * slice_index bs 1 → slice_index bs j ≡ home_byte h j
   byte_again = by_place (λ j. slice_index bs j ≡ home_byte h j) (slice_index bs 1) a.coded refl

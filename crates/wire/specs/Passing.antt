@@ -12,7 +12,7 @@ use Rattle.interface.specs.declared.home.Home.{Home}
 use Rattle.interface.specs.Grounds.{first_fault, next}
 use Rattle.interface.specs.Homes.{Passes, low_of, high_of, settings_grounds, range_grounds, crossed_grounds}
 use Rattle.interface.specs.Numbers.{within}
-use Rattle.interface.proofs.Grounds.{first-fault-++}
+use Rattle.interface.proofs.Grounds.{first_fault_append}
 
 err_not_ok : {F A : Type 0} (f : F) → ◌≡◌ {A = Result (Unit {0}) F} (Err f) (Ok tt) → A
 err_not_ok f e = let z : ◌≡◌ {A = ℕ} 0 1 = cc in absurd (omega arith)
@@ -28,8 +28,8 @@ first_ok false f gs e = (refl, e)
 -- grounds tried on each number hold of none
 pub joined_ok : {F : Type 0} (g : ℕ → List (Bool × F)) (a n : ℕ) → first_fault (flat_map g (range_with_len a n)) ≡ Ok tt → (k : ℕ) → k < n → first_fault (g (a + k)) ≡ Ok tt
 joined_ok g a zero e k h = absurd (omega arith)
-joined_ok g a (suc n) e zero h = ap (λ k. first_fault (g k)) (omega arith) ∙ (next_ok (first_fault (g a)) _ (sym (first-fault-++ (g a) _) ∙ e)).0
-joined_ok g a (suc n) e (suc k) h = ap (λ k. first_fault (g k)) (omega arith) ∙ joined_ok g (a + 1) n (next_ok (first_fault (g a)) _ (sym (first-fault-++ (g a) _) ∙ e)).1 k (omega arith)
+joined_ok g a (suc n) e zero h = ap (λ k. first_fault (g k)) (omega arith) ∙ (next_ok (first_fault (g a)) _ (sym (first_fault_append (g a) _) ∙ e)).0
+joined_ok g a (suc n) e (suc k) h = ap (λ k. first_fault (g k)) (omega arith) ∙ joined_ok g (a + 1) n (next_ok (first_fault (g a)) _ (sym (first_fault_append (g a) _) ∙ e)).1 k (omega arith)
 
 pub joined_same : {X : Type 0} (f g : ℕ → List X) (a n : ℕ) → ((k : ℕ) → a ≤ k → k < a + n → f k ≡ g k) → flat_map f (range_with_len a n) ≡ flat_map g (range_with_len a n)
 joined_same f g a zero e = refl
