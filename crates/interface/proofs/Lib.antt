@@ -1,4 +1,5 @@
 pub mod Cuts
+pub mod Filled
 pub mod Grounds
 pub mod Halves
 pub mod Homes

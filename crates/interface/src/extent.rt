@@ -3,17 +3,17 @@ ghost use Rattle.std.specs.Prelude.{◌≡◌};
 ghost use Rattle.interface.specs.Answers.{extent_number};
 
 // Void: no point is held. Lone: exactly one is. Open: the shape may be split.
-#[derive(Clone, Copy)]
+#[derive(Clone, Copy, Debug, PartialEq, Eq)]
 pub enum Extent {
     Void = 0,
     Lone = 1,
     Open = 2,
 }
 
-impl Extent {
-    pub fn number(&self) -> u8
-        ensures { result ≡ extent_number self.now }
-    {
-        *self as u8
+impl From<Extent> for u8 {
+    ghost from_gives = { λ extent number. number ≡ extent_number extent };
+
+    fn from(extent: Extent) -> u8 {
+        extent as u8
     }
 }

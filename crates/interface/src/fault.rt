@@ -5,10 +5,8 @@ ghost use Rattle.interface.specs.declared.fault.FrameFault.TheVariants.{Text};
 ghost use Rattle.interface.specs.declared.fault.RecordFault.TheVariants.{Frame};
 ghost use Rattle.interface.specs.declared.fault.SolverFault.TheVariants.{Record};
 
-use std::convert::From;
-
 // What is wrong with the text. Each place is that of a byte in its line, counted from 1.
-#[derive(Clone, Copy)]
+#[derive(Clone, Copy, Debug, PartialEq, Eq)]
 pub enum TextFault {
     // the whole text is empty or longer than 8,192 bytes
     Size,
@@ -23,7 +21,7 @@ pub enum TextFault {
 }
 
 // What is wrong with a frame, or the text's fault that kept it from being read.
-#[derive(Clone, Copy)]
+#[derive(Clone, Copy, Debug, PartialEq, Eq)]
 pub enum FrameFault {
     Text(TextFault),
     // no frame has this first byte
@@ -35,7 +33,7 @@ pub enum FrameFault {
 }
 
 // What is wrong with a record, by the place of the frame byte that starts the field.
-#[derive(Clone, Copy)]
+#[derive(Clone, Copy, Debug, PartialEq, Eq)]
 pub enum RecordFault {
     Frame(FrameFault),
     // the number of settings is not from 1 to 8
@@ -55,7 +53,7 @@ pub enum RecordFault {
 }
 
 // Why the solver refuses a call.
-#[derive(Clone, Copy)]
+#[derive(Clone, Copy, Debug, PartialEq, Eq)]
 pub enum SolverFault {
     Record(RecordFault),
     // no place for a rule
@@ -75,7 +73,7 @@ pub enum SolverFault {
 }
 
 // A fault in numbers: its number, the layer that found it, and the place that it names, 0 where it names none.
-#[derive(Clone, Copy)]
+#[derive(Clone, Copy, Debug, PartialEq, Eq)]
 pub struct Code {
     pub number: u8,
     pub layer: u8,
@@ -175,5 +173,22 @@ impl From<RecordFault> for SolverFault {
 
     fn from(value: RecordFault) -> SolverFault {
         SolverFault::Record(value)
+    }
+}
+
+// A fault carried through more than one layer.
+impl From<TextFault> for SolverFault {
+    ghost from_gives = { λ fault r. r ≡ Record (Frame (Text fault)) };
+
+    fn from(value: TextFault) -> SolverFault {
+        SolverFault::from(RecordFault::from(FrameFault::from(value)))
+    }
+}
+
+impl From<FrameFault> for SolverFault {
+    ghost from_gives = { λ fault r. r ≡ Record (Frame fault) };
+
+    fn from(value: FrameFault) -> SolverFault {
+        SolverFault::from(RecordFault::from(value))
     }
 }

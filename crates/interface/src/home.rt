@@ -19,7 +19,7 @@ pub struct Home {
 fn in_range(z: i32) -> bool
     ensures { result ≡ within 1000000 z }
 {
-    -1_000_000 <= z && z <= 1_000_000
+    (-1_000_000..=1_000_000).contains(&z)
 }
 
 impl Home {
@@ -28,7 +28,7 @@ impl Home {
     pub fn check(&self) -> Result<(), RecordFault>
         ensures { result ≡ home_check self.now }
     {
-        if self.n < 1 || self.n > 8 {
+        if !(1..=8).contains(&self.n) {
             return Err(RecordFault::Settings(2));
         }
         self.check_ranges()?;

@@ -1,5 +1,5 @@
 // A point: a whole number for each setting.
-ghost use Rattle.std.specs.Prelude.{◌≡◌, ◌^◌, ◌≤◌, pos, slice_index_or, unsigned_abs};
+ghost use Rattle.std.specs.Prelude.{◌≡◌, ◌^◌, ◌≤◌, length, pos, slice_index_or, unsigned_abs};
 ghost use Rattle.interface.specs.Nodes.{value};
 ghost use Rattle.interface.specs.Points.{values_of};
 
@@ -11,6 +11,13 @@ pub struct Point {
 }
 
 impl Point {
+    // How many values count: at most the eight that there are.
+    pub fn settings(&self) -> u8
+        ensures { result ≡ length (values_of self.now) }
+    {
+        self.n.min(8)
+    }
+
     // The value of a setting, 0 for one that is not on the line.
     pub fn setting(&self, k: u8) -> i32
         ensures { result ≡ slice_index_or (values_of self.now) k (pos 0) }

@@ -8,6 +8,7 @@ use super::extent::Extent;
 use super::home::Home;
 use super::point::Point;
 use super::reading::Reading;
+use std::array;
 
 pub trait Shape: Copy {
     // what each call answers
@@ -63,13 +64,9 @@ pub trait Shape: Copy {
     fn reading(&self) -> Reading
         ensures { result ≡ reading_of model self.now }
     {
-        let mut limits = [0i32; 256];
-        for k in 0..256usize {
-            limits[k] = self.limit((k / 16) as u8, (k % 16) as u8);
-        }
         Reading {
             n: self.n(),
-            limits,
+            limits: array::from_fn(|k| self.limit((k / 16) as u8, (k % 16) as u8)),
         }
     }
 

@@ -3,17 +3,17 @@ ghost use Rattle.std.specs.Prelude.{◌≡◌};
 ghost use Rattle.interface.specs.Answers.{verdict_number};
 
 // Nothing: no point within the limits meets the rule. All: every one does. Unknown: neither is known.
-#[derive(Clone, Copy)]
+#[derive(Clone, Copy, Debug, PartialEq, Eq)]
 pub enum Verdict {
     Nothing = 0,
     All = 1,
     Unknown = 2,
 }
 
-impl Verdict {
-    pub fn number(&self) -> u8
-        ensures { result ≡ verdict_number self.now }
-    {
-        *self as u8
+impl From<Verdict> for u8 {
+    ghost from_gives = { λ verdict number. number ≡ verdict_number verdict };
+
+    fn from(verdict: Verdict) -> u8 {
+        verdict as u8
     }
 }

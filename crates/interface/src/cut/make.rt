@@ -10,7 +10,7 @@ use super::Cut;
 fn is_cut(p: u8, q: u8, c: i32) -> bool
     ensures { result ≡ valid_cut p q c }
 {
-    p < 16 && q < 16 && q != opposite(p) && -2_000_000 <= c && c <= 2_000_000
+    p < 16 && q < 16 && q != opposite(p) && (-2_000_000..=2_000_000).contains(&c)
 }
 
 impl Cut {
