@@ -1,7 +1,7 @@
 // The frames that a line may be, and the rule that it states.
 ghost use Rattle.std.specs.Prelude.{◌≡◌};
 ghost use Rattle.wire.specs.Bytes.{unhex};
-ghost use Rattle.problem.specs.AnyRules.{known_kinds, other_rule, rule_of, filler};
+ghost use Rattle.problem.specs.AnyRules.{known_kinds, rule_of, filler};
 
 use interface::home::Home;
 use rules::any::AnyRule;
@@ -26,29 +26,17 @@ pub fn kinds() -> [FrameKind; 5]
     ]
 }
 
-// A rule that is neither a pair nor a sum.
-fn other_rule(digits: &[u8], code: u8) -> Joined<ApartRule, StepRule>
-    ensures { result ≡ other_rule code (unhex digits.now) }
-{
-    if code == 5 {
-        Joined::First(ApartRule::read(digits))
-    } else {
-        Joined::Second(StepRule::read(digits))
-    }
-}
-
 // The rule that a line's digits give, by its first byte.
 pub fn read_rule(digits: &[u8]) -> AnyRule
     ensures { result ≡ rule_of (unhex digits.now) }
 {
-    let code = byte_at(digits, 0);
-    if code == 2 {
-        return Joined::First(PairRule::read(digits));
+    // by the byte itself: an enum between it and the rule would only name each kind once more
+    match byte_at(digits, 0) {
+        2 => Joined::First(PairRule::read(digits)),
+        3 => Joined::Second(Joined::First(SumRule::read(digits))),
+        5 => Joined::Second(Joined::Second(Joined::First(ApartRule::read(digits)))),
+        _ => Joined::Second(Joined::Second(Joined::Second(StepRule::read(digits)))),
     }
-    if code == 3 {
-        return Joined::Second(Joined::First(SumRule::read(digits)));
-    }
-    Joined::Second(Joined::Second(other_rule(digits, code)))
 }
 
 // A record to fill an array with.

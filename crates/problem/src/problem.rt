@@ -1,23 +1,21 @@
 // What a text states, and why it is refused.
-ghost use Rattle.std.specs.Prelude.{◌≡◌, ◌+◌, ◌<◌, ◌≤◌, [], length, slice_set};
+ghost use Rattle.std.specs.Prelude.{◌≡◌, []};
 ghost use Rattle.wire.specs.Readers.{left_of};
 ghost use Rattle.problem.specs.Problems.{rules_in, seen_by, rules_seen};
-ghost use Rattle.problem.specs.Reading.{rules_from, with_rules, read_text, refusal};
+ghost use Rattle.problem.specs.Reading.{rules_from, with_rules, read_text};
 
-use super::any_rule::no_rule;
-use super::front::front;
 use super::reading::{first_home, size_of, stated_line};
+use arrayvec::ArrayVec;
 use interface::fault::SolverFault;
 use interface::home::Home;
 use rules::any::AnyRule;
 use wire::reader::Reader;
 
-// A home and its rules, the first `count` of the array.
-#[derive(Clone, Copy)]
+// A home and its rules, of which a solver has place for 32.
+#[derive(Drop)]
 pub struct Problem {
     pub home: Home,
-    pub rules: [AnyRule; 32],
-    pub count: usize,
+    pub rules: ArrayVec<AnyRule, 32>,
 }
 
 // The first fault, and the number of the line that has it; 0 where it is the whole text's.
@@ -27,44 +25,26 @@ pub struct Refusal {
     pub line: u16,
 }
 
-fn refused(fault: SolverFault, line: u16) -> Refusal
-    ensures { result ≡ refusal fault line }
-{
-    Refusal { fault, line }
-}
-
 impl Problem {
-    // The rules that count.
     pub fn stated(&self) -> &[AnyRule]
         ensures { result.now ≡ rules_in self.now }
     {
-        front(&self.rules, self.count)
-    }
-
-    fn add(&mut self, rule: AnyRule)
-        requires { self.old.count < 32 }
-        ensures { self.new ≡ record { home = self.old.home; rules = slice_set self.old.rules self.old.count rule; count = self.old.count + 1 } }
-    {
-        self.rules[self.count] = rule;
-        self.count += 1;
+        self.rules.as_slice()
     }
 }
 
 // The rules of at most so many lines join those of the problem.
 fn read_rules(reader: &mut Reader, problem: &mut Problem, lines: usize) -> Result<(), Refusal>
-    requires { (problem.old.count ≤ 32) × (length problem.old.rules ≡ 32) }
     ensures home { problem.new.home ≡ problem.old.home }
     ensures rules { rules_seen result (rules_in problem.new) ≡ rules_from lines problem.old.home.n (left_of reader.old) reader.old.line (rules_in problem.old) }
 {
-    for k in 0..lines {
-        let next = match stated_line(reader, problem.home.n, problem.count) {
-            Ok(next) => next,
-            Err(fault) => return Err(refused(fault, reader.line)),
-        };
+    for _ in 0..lines {
+        let next = stated_line(reader, problem.home.n, problem.rules.len())
+            .map_err(|fault| Refusal { fault, line: reader.line })?;
         let Some(rule) = next else {
             return Ok(());
         };
-        problem.add(rule);
+        problem.rules.push(rule);
     }
     Ok(())
 }
@@ -75,25 +55,18 @@ fn rules_behind(reader: &mut Reader, home: Home, lines: usize) -> Result<Problem
 {
     let mut problem = Problem {
         home,
-        rules: [no_rule(); 32],
-        count: 0,
+        rules: ArrayVec::new(),
     };
-    match read_rules(reader, &mut problem, lines) {
-        Ok(()) => Ok(problem),
-        Err(refusal) => Err(refusal),
-    }
+    read_rules(reader, &mut problem, lines)?;
+    Ok(problem)
 }
 
 // Reads a text: its home and its rules, or the first fault with the number of its line.
 pub fn read_problem(text: &[u8]) -> Result<Problem, Refusal>
     ensures { seen_by result ≡ read_text text.now }
 {
-    if let Err(fault) = size_of(text) {
-        return Err(refused(fault, 0));
-    }
+    size_of(text).map_err(|fault| Refusal { fault, line: 0 })?;
     let mut reader = Reader::new(text);
-    match first_home(&mut reader) {
-        Ok(home) => rules_behind(&mut reader, home, text.len()),
-        Err(fault) => Err(refused(fault, 1)),
-    }
+    let home = first_home(&mut reader).map_err(|fault| Refusal { fault, line: 1 })?;
+    rules_behind(&mut reader, home, text.len())
 }

@@ -1,14 +1,10 @@
 // Reading a text line by line, each through every layer before the next.
-ghost use Rattle.std.specs.Prelude.{◌≡◌, Ok};
-ghost use Rattle.interface.specs.Grounds.{first_fault};
-ghost use Rattle.interface.specs.declared.fault.FrameFault.TheVariants.{Text};
-ghost use Rattle.interface.specs.declared.fault.RecordFault.TheVariants.{Frame as InRecord};
+ghost use Rattle.std.specs.Prelude.{◌≡◌};
 ghost use Rattle.wire.specs.Readers.{left_of, advanced};
-ghost use Rattle.wire.specs.Text.{size_grounds};
-ghost use Rattle.problem.specs.Reading.{after, home_line, rule_line, stated_line, homed, ruled, size_check, first_home};
+ghost use Rattle.problem.specs.Reading.{home_line, rule_line, stated_line, homed, ruled, size_check, first_home};
 
 use super::any_rule::{kinds, read_rule};
-use interface::fault::{FrameFault, RecordFault, SolverFault, TextFault};
+use interface::fault::{RecordFault, SolverFault, TextFault};
 use interface::home::Home;
 use interface::rule::Rule;
 use rules::any::AnyRule;
@@ -30,8 +26,7 @@ pub fn home_line(reader: &mut Reader) -> Result<Option<Home>, RecordFault>
     ensures after { reader.new ≡ advanced reader.old }
 {
     let known = kinds();
-    let next = next_frame(reader, true, &known)?;
-    let Some(digits) = next else {
+    let Some(digits) = next_frame(reader, true, &known)? else {
         return Ok(None);
     };
     home_of(digits)
@@ -50,8 +45,7 @@ fn rule_line(reader: &mut Reader, n: u8) -> Result<Option<AnyRule>, RecordFault>
     ensures after { reader.new ≡ advanced reader.old }
 {
     let known = kinds();
-    let next = next_frame(reader, false, &known)?;
-    let Some(digits) = next else {
+    let Some(digits) = next_frame(reader, false, &known)? else {
         return Ok(None);
     };
     rule_of(digits, n)
@@ -62,8 +56,7 @@ pub fn stated_line(reader: &mut Reader, n: u8, count: usize) -> Result<Option<An
     ensures value { result ≡ stated_line n count (left_of reader.old) }
     ensures after { reader.new ≡ advanced reader.old }
 {
-    let next = rule_line(reader, n)?;
-    let Some(rule) = next else {
+    let Some(rule) = rule_line(reader, n)? else {
         return Ok(None);
     };
     if count >= 32 {
@@ -73,24 +66,10 @@ pub fn stated_line(reader: &mut Reader, n: u8, count: usize) -> Result<Option<An
 }
 
 // The text's size, as a ground of its own.
-fn frame_size(text: &[u8]) -> Result<(), FrameFault>
-    ensures { result ≡ after (first_fault (size_grounds text.now)) Text Ok }
-{
-    text_size(text)?;
-    Ok(())
-}
-
-fn record_size(text: &[u8]) -> Result<(), RecordFault>
-    ensures { result ≡ after (after (first_fault (size_grounds text.now)) Text Ok) InRecord Ok }
-{
-    frame_size(text)?;
-    Ok(())
-}
-
 pub fn size_of(text: &[u8]) -> Result<(), SolverFault>
     ensures { result ≡ size_check text.now }
 {
-    record_size(text)?;
+    text_size(text)?;
     Ok(())
 }
 
@@ -99,9 +78,8 @@ pub fn first_home(reader: &mut Reader) -> Result<Home, SolverFault>
     ensures value { result ≡ first_home (left_of reader.old) }
     ensures after { reader.new ≡ advanced reader.old }
 {
-    let next = home_line(reader)?;
-    let Some(home) = next else {
-        return Err(SolverFault::Record(RecordFault::Frame(FrameFault::Text(TextFault::Size))));
+    let Some(home) = home_line(reader)? else {
+        return Err(SolverFault::from(TextFault::Size));
     };
     Ok(home)
 }

@@ -15,6 +15,12 @@ pub enum Joined<A, B> {
     Second(B),
 }
 
+impl<A: Default, B> Default for Joined<A, B> {
+    fn default() -> Joined<A, B> {
+        Joined::First(A::default())
+    }
+}
+
 impl<A: Rule, B: Rule> Rule for Joined<A, B> {
     ghost model = { joined A.model B.model };
 

@@ -20,7 +20,7 @@ use wire::frame::{Frame, FrameKind};
 use wire::output::put_line;
 
 // v(p) + v(q) is at most c.
-#[derive(Clone, Copy)]
+#[derive(Clone, Copy, Default)]
 pub struct PairRule {
     pub p: u8,
     pub q: u8,
