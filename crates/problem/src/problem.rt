@@ -38,9 +38,13 @@ fn read_rules(reader: &mut Reader, problem: &mut Problem, lines: usize) -> Resul
     ensures home { problem.new.home ≡ problem.old.home }
     ensures rules { rules_seen result (rules_in problem.new) ≡ rules_from lines problem.old.home.n (left_of reader.old) reader.old.line (rules_in problem.old) }
 {
-    for _ in 0..lines {
-        let next = stated_line(reader, problem.home.n, problem.rules.len())
-            .map_err(|fault| Refusal { fault, line: reader.line })?;
+    for k in 0..lines {
+        let next = stated_line(reader, problem.home.n, problem.rules.len()).map_err(
+            |fault| Refusal {
+                fault,
+                line: reader.line,
+            },
+        )?;
         let Some(rule) = next else {
             return Ok(());
         };
