@@ -1,7 +1,15 @@
 // Appending lines to a lent output: what lies elsewhere stays as it was.
-ghost use Rattle.std.specs.Prelude.{◌≡◌, ◌+◌, ◌*◌, ◌/◌, ◌%◌, ◌<◌, ◌≤◌, length, nat_lt, slice_set};
+ghost use Rattle.std.specs.Prelude.{◌≡◌, ◌+◌, ◌*◌, ◌/◌, ◌%◌, ◌<◌, ◌≤◌, [], ◌∷◌, length, nat_lt, slice_set};
+ghost use Rattle.wire.specs.Appending.{lines, lines_in, has_room, Appends};
 ghost use Rattle.wire.specs.Bytes.{digit_of, hex};
 ghost use Rattle.wire.specs.Output.{written, line_of, line_put, line_end, ReadsBack};
+
+// An output that the caller lends, and the place that the next line goes to.
+#[derive(Drop)]
+pub struct Output<'a> {
+    bytes: &'a mut [u8],
+    at: usize,
+}
 
 fn hex_digit(value: u8) -> u8
     requires { value < 16 }
@@ -66,12 +74,38 @@ fn append_line(out: &mut [u8], at: usize, bytes: &[u8]) -> Option<usize>
     Some(at + 2 * bytes.len() + 1)
 }
 
-// Appends a frame as a line, and answers the place after it; where the whole line has no room, nothing is written.
-// The line reads back.
-pub fn put_line(out: &mut [u8], at: usize, bytes: &[u8]) -> Option<usize>
-    ensures value { result ≡ line_end out.old at bytes.now }
-    ensures after { out.new ≡ line_put out.old at bytes.now }
-    ensures reads { ReadsBack bytes.now }
-{
-    append_line(out, at, bytes)
+impl<'a> Output<'a> {
+    // The next line goes to the front of the bytes.
+    pub fn new(bytes: &'a mut [u8]) -> Output<'a>
+        ensures same_bytes { result.bytes.ghost_name ≡ bytes.entry.ghost_name }
+        ensures start { lines_in result ≡ lines bytes.old 0 }
+    {
+        Output { bytes, at: 0 }
+    }
+
+    // The place that the next line goes to: so many bytes are written.
+    pub fn place(&self) -> usize
+        ensures { result ≡ (lines_in self.now).place }
+    {
+        self.at
+    }
+
+    // How many bytes are lent.
+    pub fn size(&self) -> usize
+        ensures { result ≡ length (lines_in self.now).output }
+    {
+        self.bytes.len()
+    }
+
+    // Appends a frame as a line, and answers whether it has room; where the whole line has none, nothing is written.
+    // The line reads back.
+    pub fn put_line(&mut self, frame: &[u8]) -> bool
+        ensures room { result ≡ has_room (lines_in self.old) frame.now }
+        ensures appends { Appends self.old self.new (frame.now ∷ []) }
+        ensures reads { ReadsBack frame.now }
+    {
+        let next = append_line(self.bytes, self.at, frame);
+        self.at = next.unwrap_or(self.at);
+        next.is_some()
+    }
 }
