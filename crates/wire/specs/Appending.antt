@@ -38,6 +38,11 @@ pub record Appends (old new : Output) (fs : List (List ℕ)) : Type 0 where
   pub same_bytes : new.bytes.ghost_name ≡ old.bytes.ghost_name
   pub lines_put : lines_in new ≡ put_frames (lines_in old) fs
 
+-- the same lent bytes, with s written from the place on, and the place behind it
+pub record Writes (old new : Output) (s : List ℕ) : Type 0 where
+  pub same_bytes : new.bytes.ghost_name ≡ old.bytes.ghost_name
+  pub bytes_put : lines_in new ≡ lines (written old.bytes.now old.at s) (old.at + length s)
+
 -- two digits a byte and a line feed
 abbrev pub line_size : List ℕ → ℕ
 line_size bs = 2 * length bs + 1
