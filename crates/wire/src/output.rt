@@ -1,8 +1,8 @@
 // Appending lines to a lent output: what lies elsewhere stays as it was.
-ghost use Rattle.std.specs.Prelude.{◌≡◌, ◌+◌, ◌*◌, ◌/◌, ◌%◌, ◌<◌, ◌≤◌, [], ◌∷◌, length, nat_lt, slice_set};
+ghost use Rattle.std.specs.Prelude.{◌≡◌, ◌+◌, ◌*◌, ◌/◌, ◌%◌, ◌<◌, ◌≤◌, [], ◌∷◌, length};
 ghost use Rattle.wire.specs.Appending.{lines, lines_in, has_room, Appends, Writes};
 ghost use Rattle.wire.specs.Bytes.{digit_of, hex};
-ghost use Rattle.wire.specs.Output.{written, line_of, line_put, line_end, ReadsBack};
+ghost use Rattle.wire.specs.Output.{ReadsBack};
 
 // An output that the caller lends, and the place that the next line goes to.
 #[derive(Drop)]
@@ -45,11 +45,10 @@ impl<'a> Output<'a> {
         self.bytes.len()
     }
 
-    // Whether a line of so many bytes has room.
-    fn has_room(&self, count: usize) -> bool
-        ensures { result ≡ nat_lt ((lines_in self.now).place + 2 * count) (length (lines_in self.now).output) }
+    fn has_room(&self, frame: &[u8]) -> bool
+        ensures { result ≡ has_room (lines_in self.now) frame.now }
     {
-        count < self.size().saturating_sub(self.place()).div_ceil(2)
+        frame.len() < self.size().saturating_sub(self.place()).div_ceil(2)
     }
 
     fn put(&mut self, byte: u8)
@@ -86,7 +85,7 @@ impl<'a> Output<'a> {
         ensures appends { Appends self.old self.new (frame.now ∷ []) }
         ensures reads { ReadsBack frame.now }
     {
-        let room = self.has_room(frame.len());
+        let room = self.has_room(frame);
         if room {
             self.put_digits(frame);
             self.put(b'\n');
