@@ -6,7 +6,7 @@ use Rattle.std.proofs.lemmas.List.{length-take}
 use Rattle.interface.specs.declared.point.Point.{Point}
 use Rattle.interface.specs.declared.reading.Reading.{Reading}
 use Rattle.wire.specs.HomeFrame.{home_byte}
-use Rattle.report_lines.specs.Appending.{line_size, lines_size}
+use Rattle.wire.specs.Appending.{line_size, lines_size}
 use Rattle.report_lines.specs.RegionFrames.{ordered, tells_more, point_values, point_frame, ranges_of, ranges_frame, pair_frame, pair_at, pair_frames, region_frames}
 use Rattle.report_lines.proofs.Pointed.{words_long}
 

@@ -1,8 +1,8 @@
 -- A loop over places appends the frames of place k, and then those that are left. Assumes nothing.
 use Rattle.std.proofs.Common.{◌≡◌, ℕ, suc, ◌+◌, ◌-◌, ◌<◌, List, sym, ap, ◌∙◌, arith}
 use Rattle.std.specs.List.{range_with_len, flat_map}
-use Rattle.report_lines.specs.Appending.{Lines, put_frames}
-use Rattle.report_lines.proofs.Adding.{put_on}
+use Rattle.wire.specs.Appending.{Lines, put_frames}
+use Rattle.wire.proofs.Adding.{put_on}
 
 module _ (f : ℕ → List (List ℕ)) (n : ℕ) where
   abbrev left : Lines → ℕ → Lines

@@ -1,4 +1,3 @@
-pub mod Appending
 pub mod EndFrame
 pub mod PairLaws
 pub mod RegionFrames

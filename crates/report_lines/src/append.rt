@@ -1,6 +1,6 @@
 // Appending frames to a lent output, a line each.
 ghost use Rattle.std.specs.Prelude.{◌≡◌};
-ghost use Rattle.report_lines.specs.Appending.{lines, place_after, put_frame};
+ghost use Rattle.wire.specs.Appending.{lines, place_after, put_frame};
 
 use wire::output::put_line;
 

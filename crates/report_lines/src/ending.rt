@@ -1,7 +1,7 @@
 // The line that ends an answer: 1F, how the run ended, whether a region was handed out, and the steps.
 ghost use Rattle.std.specs.Prelude.{◌≡◌, [], ◌∷◌, if◌then◌else◌};
 ghost use Rattle.wire.specs.Bytes.{be};
-ghost use Rattle.report_lines.specs.Appending.{lines, put_frames, lines_size, WrittenWhole};
+ghost use Rattle.wire.specs.Appending.{lines, put_frames, lines_size, WrittenWhole};
 ghost use Rattle.report_lines.specs.EndFrame.{end_frame};
 
 use super::append::append;

@@ -1,7 +1,7 @@
 // The lines of a region's pairs: those limits that say more than the ranges do.
 ghost use Rattle.std.specs.Prelude.{◌≡◌, ◌*◌, ◌<◌, ◌+ℤ◌, int_lt, nat_lt};
 ghost use Rattle.interface.specs.Numbers.{half};
-ghost use Rattle.report_lines.specs.Appending.{lines, put_frames};
+ghost use Rattle.wire.specs.Appending.{lines, put_frames};
 ghost use Rattle.report_lines.specs.RegionFrames.{ordered, tells_more, pair_written, pair_frame, pair_at, pair_frames};
 
 use super::append::append;

@@ -2,7 +2,7 @@
 ghost use Rattle.std.specs.Prelude.{◌≡◌, ◌+◌, ◌*◌, ◌<◌, min, map};
 ghost use Rattle.std.specs.List.{range_with_len};
 ghost use Rattle.wire.specs.HomeFrame.{word_byte};
-ghost use Rattle.report_lines.specs.Appending.{lines, put_frame};
+ghost use Rattle.wire.specs.Appending.{lines, put_frame};
 ghost use Rattle.report_lines.specs.RegionFrames.{value_byte, point_byte, point_frame};
 
 use super::append::append;

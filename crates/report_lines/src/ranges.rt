@@ -1,7 +1,7 @@
 // The line of a region's ranges: a home frame, made from the limits.
 ghost use Rattle.std.specs.Prelude.{◌≡◌, ◌<◌};
 ghost use Rattle.wire.specs.HomeFrame.{first_or_0};
-ghost use Rattle.report_lines.specs.Appending.{lines, put_frame};
+ghost use Rattle.wire.specs.Appending.{lines, put_frame};
 ghost use Rattle.report_lines.specs.RegionFrames.{low_at, high_at, ranges_of, ranges_frame};
 
 use super::append::settled;

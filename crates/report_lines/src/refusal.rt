@@ -1,7 +1,7 @@
 // The one line that answers a text which was refused.
 ghost use Rattle.std.specs.Prelude.{◌≡◌, [], ◌∷◌};
 ghost use Rattle.wire.specs.FaultLine.{fault_frame};
-ghost use Rattle.report_lines.specs.Appending.{lines, put_frames, lines_size, WrittenWhole};
+ghost use Rattle.wire.specs.Appending.{lines, put_frames, lines_size, WrittenWhole};
 
 use super::append::settled;
 use interface::fault::SolverFault;

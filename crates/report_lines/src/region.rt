@@ -1,6 +1,6 @@
 // The lines of a region: its point, its ranges and its pairs.
 ghost use Rattle.std.specs.Prelude.{◌≡◌, ◌≤◌};
-ghost use Rattle.report_lines.specs.Appending.{lines, put_frames, lines_size, WrittenWhole};
+ghost use Rattle.wire.specs.Appending.{lines, put_frames, lines_size, WrittenWhole};
 ghost use Rattle.report_lines.specs.PairLaws.{PairsTold};
 ghost use Rattle.report_lines.specs.RegionFrames.{pair_frames, region_frames};
 

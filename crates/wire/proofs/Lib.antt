@@ -1,3 +1,4 @@
+pub mod Adding
 pub mod Hex
 pub mod Lines
 pub mod Lookup

@@ -1,33 +1,62 @@
--- What is written grows by one place after another. Assumes nothing.
-use Rattle.std.proofs.Common.{◌≡◌, ℕ, ◌+◌, ◌*◌, ◌/◌, ◌%◌, ◌<◌, ◌≤◌, List, [], ◌∷◌, ◌++◌, length, get_or, take, drop, set, sym, ap, ◌∙◌, add-zero, arith}
-use Rattle.std.proofs.lemmas.List.{append_assoc, take-append-drop, drop_more, set_at, take_more, length_push, length-append, length-take-le}
-use Rattle.wire.specs.Bytes.{hex, digit_of}
-use Rattle.wire.specs.Output.{written, line_of}
-use Rattle.wire.proofs.Hex.{length_hex, hex_append}
+-- What is written grows at its end: bytes that are written behind others stand with them in one piece. Assumes nothing.
+use Rattle.std.proofs.Common.{◌≡◌, ℕ, ◌+◌, ◌<◌, ◌≤◌, List, [], ◌∷◌, ◌++◌, length, take, drop, set, sym, ap, ◌∙◌, add-zero, add-one, refl, arith}
+use Rattle.std.proofs.lemmas.List.{append_assoc, take-append-drop, set_split, length-append, length-drop, length-take-le, take_at, drop_at, drop-drop}
+use Rattle.wire.specs.declared.output.Output.{Output}
+use Rattle.wire.specs.Appending.{Lines, lines, Writes}
+use Rattle.wire.specs.Output.{written}
 
 pub written_none : (d : List ℕ) (i : ℕ) → d ≡ written d i []
 unfolding written
 written_none d i = rw add-zero (sym (take-append-drop i d))
 
-pub written_more : (d : List ℕ) (i : ℕ) (s : List ℕ) (x k : ℕ) → k ≡ i + length s → k < length d → set (written d i s) k x ≡ written d i (s ++ x ∷ [])
+pub written_one : (d : List ℕ) (i x : ℕ) → i < length d → set d i x ≡ written d i (x ∷ [])
 unfolding written
-written_more d i s x k e h =
-    let front = take i d ++ s in
-    let whole : take i d ++ (s ++ drop (i + length s) d) ≡ front ++ (get_or d k 0 ∷ drop (k + 1) d) = sym (append_assoc (take i d) s (drop (i + length s) d)) ∙ ap (λ z. front ++ drop z d) (sym e) ∙ ap (λ z. front ++ z) (drop_more d k 0 h) in
-    let long : length front ≡ k = length-append (take i d) s ∙ omega (arith, length-take-le i d (omega arith)) in
-    let rest : drop (k + 1) d ≡ drop (i + length (s ++ x ∷ [])) d = ap (λ z. drop z d) (omega (arith, length_push s x)) in
-    ap (λ z. set z k x) whole ∙ set_at front (get_or d k 0) (drop (k + 1) d) x k long ∙ append_assoc (take i d) s (x ∷ drop (k + 1) d) ∙ ap (λ z. take i d ++ z) (sym (append_assoc s (x ∷ []) (drop (k + 1) d)) ∙ ap (λ z. (s ++ x ∷ []) ++ z) rest)
+written_one d i x h = rw add-one (set_split d i x h)
 
--- two digits more
-pub put_more : (d : List ℕ) (at : ℕ) (bs : List ℕ) (i : ℕ) (out : List ℕ) → at + 2 * length bs ≤ length d → i < length bs → out ≡ written d at (hex (take i bs)) → set (set out (at + 2 * i) (digit_of (get_or bs i 0 / 16))) (at + 2 * i + 1) (digit_of (get_or bs i 0 % 16)) ≡ written d at (hex (take (i + 1) bs))
-put_more d at bs i out room h e =
-    let s = hex (take i bs) in
-    let x = digit_of (get_or bs i 0 / 16) in
-    let y = digit_of (get_or bs i 0 % 16) in
-    let long : length s ≡ 2 * i = length_hex (take i bs) ∙ ap (λ z. 2 * z) (length-take-le i bs (omega arith)) in
-    let one : set out (at + 2 * i) x ≡ written d at (s ++ x ∷ []) = ap (λ z. set z (at + 2 * i) x) e ∙ written_more d at s x (at + 2 * i) (omega arith) (omega arith) in
-    let two : set (written d at (s ++ x ∷ [])) (at + 2 * i + 1) y ≡ written d at ((s ++ x ∷ []) ++ y ∷ []) = written_more d at (s ++ x ∷ []) y (at + 2 * i + 1) (omega (arith, length_push s x)) (omega arith) in
-    ap (λ z. set z (at + 2 * i + 1) y) one ∙ two ∙ ap (written d at) (append_assoc s (x ∷ []) (y ∷ []) ∙ sym (ap hex (take_more bs i 0 h) ∙ hex_append (take i bs) (get_or bs i 0 ∷ [])))
+module _ (d : List ℕ) (i : ℕ) (s : List ℕ) (room : i + length s ≤ length d) where
+  abbrev front : List ℕ
+  front = take i d ++ s
 
-pub put_feed : (d : List ℕ) (at : ℕ) (bs : List ℕ) (out : List ℕ) → at + 2 * length bs < length d → out ≡ written d at (hex bs) → set out (at + 2 * length bs) 10 ≡ written d at (line_of bs)
-put_feed d at bs out room e = ap (λ z. set z (at + 2 * length bs) 10) e ∙ written_more d at (hex bs) 10 (at + 2 * length bs) (omega (arith, length_hex bs)) room
+  front_long : length front ≡ i + length s
+  front_long = length-append (take i d) s ∙ ap (λ k. k + length s) (length-take-le i d (omega arith))
+
+  apart : written d i s ≡ front ++ drop (i + length s) d
+  unfolding written
+  apart = sym (append_assoc (take i d) s (drop (i + length s) d))
+
+  pub written_long : length (written d i s) ≡ length d
+  written_long = ap length apart ∙ length-append front (drop (i + length s) d) ∙ omega (arith, front_long, length-drop (i + length s) d)
+
+  -- what is written behind what was written
+  pub written_on : (t : List ℕ) → written (written d i s) (i + length s) t ≡ written d i (s ++ t)
+  unfolding written
+  written_on t =
+      let j = i + length s in
+      let rest = drop j d in
+      let start : take j (written d i s) ≡ front = ap (take j) apart ∙ take_at front rest j front_long in
+      let end : drop (j + length t) (written d i s) ≡ drop (i + length (s ++ t)) d =
+      sym (drop-drop (length t) j (written d i s)) ∙ ap (λ z. drop (length t) (drop j z)) apart ∙ ap (drop (length t)) (drop_at front rest j front_long) ∙ drop-drop (length t) j d ∙ ap (λ k. drop k d) (omega (arith, length-append s t)) in
+      (λ k. start k ++ (t ++ end k)) ∙ append_assoc (take i d) s (t ++ drop (i + length (s ++ t)) d) ∙ ap (λ z. take i d ++ z) (sym (append_assoc s t (drop (i + length (s ++ t)) d)))
+
+-- the same for an output
+pub writes_none : (o : Output) → Writes o o []
+writes_none o =
+    let place : o.at ≡ o.at + 0 = omega arith in
+    record { same_bytes = refl; bytes_put = λ k. lines (written_none o.bytes.now o.at k) (place k) }
+
+module _ (a b : Output) (s : List ℕ) (first : Writes a b s) where
+  pub writes_on : a.at + length s ≤ length a.bytes.now → (c : Output) (t : List ℕ) → Writes b c t → Writes a c (s ++ t)
+  writes_on room c t more =
+      let bytes = written_on a.bytes.now a.at s room t in
+      let place : a.at + length s + length t ≡ a.at + length (s ++ t) = omega (arith, length-append s t) in
+      record {
+        same_bytes = more.same_bytes ∙ first.same_bytes;
+        bytes_put = more.bytes_put ∙ ap (λ (l : Lines). lines (written l.output l.place t) (l.place + length t)) first.bytes_put ∙ (λ k. lines (bytes k) (place k));
+      }
+
+  -- what had room behind s still has
+  pub writes_room : (n : ℕ) → a.at + length s + n ≤ length a.bytes.now → b.at + n ≤ length b.bytes.now
+  writes_room n room =
+      let place : b.at ≡ a.at + length s = ap (λ (l : Lines). l.place) first.bytes_put in
+      let long : length b.bytes.now ≡ length a.bytes.now = ap (λ (l : Lines). length l.output) first.bytes_put ∙ written_long a.bytes.now a.at s (omega arith) in
+      omega arith

@@ -1,10 +1,10 @@
 // The line that says why a text was refused: number, layer, line and place.
-ghost use Rattle.std.specs.Prelude.{◌≡◌};
+ghost use Rattle.std.specs.Prelude.{◌≡◌, [], ◌∷◌};
+ghost use Rattle.wire.specs.Appending.{lines_in, has_room, Appends};
 ghost use Rattle.wire.specs.FaultLine.{fault_line, fault_frame};
-ghost use Rattle.wire.specs.Output.{line_put, line_end};
 
 use super::bytes::u16_bytes;
-use super::output::put_line;
+use super::output::Output;
 use interface::fault::SolverFault;
 
 // A fault of the whole text names no line.
@@ -31,11 +31,10 @@ fn fault_bytes(fault: SolverFault, line: u16) -> [u8; 7]
     ]
 }
 
-// Appends the fault's line and answers the place after it; where it has no room, nothing is written.
-pub fn put_fault(out: &mut [u8], at: usize, fault: SolverFault, line: u16) -> Option<usize>
-    ensures value { result ≡ line_end out.old at (fault_frame fault line) }
-    ensures after { out.new ≡ line_put out.old at (fault_frame fault line) }
+// Appends the fault's line, and answers whether it has room; where it has none, nothing is written.
+pub fn put_fault(out: &mut Output, fault: SolverFault, line: u16) -> bool
+    ensures room { result ≡ has_room (lines_in out.old) (fault_frame fault line) }
+    ensures appends { Appends out.old out.new (fault_frame fault line ∷ []) }
 {
-    let bytes = fault_bytes(fault, line);
-    put_line(out, at, &bytes)
+    out.put_line(&fault_bytes(fault, line))
 }

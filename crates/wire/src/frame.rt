@@ -1,8 +1,10 @@
 // What a frame is: a record that a line of digits writes.
-ghost use Rattle.std.specs.Prelude.{◌≡◌};
+ghost use Rattle.std.specs.Prelude.{◌≡◌, [], ◌∷◌};
+ghost use Rattle.wire.specs.Appending.{lines_in, has_room, Appends};
 ghost use Rattle.wire.specs.Bytes.{unhex};
 ghost use Rattle.wire.specs.Frames.{FrameModel, FrameLaws};
-ghost use Rattle.wire.specs.Output.{line_put, line_end};
+
+use super::output::Output;
 
 // A frame's first byte, and how many bytes it has: `base` and, for each that its second byte counts, `each` more.
 #[derive(Clone, Copy)]
@@ -23,10 +25,10 @@ pub trait Frame: Copy {
     fn read(digits: &[u8]) -> Self
         ensures { result ≡ frame.read (unhex digits.now) };
 
-    // Appends the record's line and answers the place after it; where it has no room, nothing is written.
-    fn write(&self, out: &mut [u8], at: usize) -> Option<usize>
-        ensures value { result ≡ line_end out.old at (frame.write self.now) }
-        ensures after { out.new ≡ line_put out.old at (frame.write self.now) };
+    // Appends the record's line, and answers whether it has room; where it has none, nothing is written.
+    fn write(&self, out: &mut Output) -> bool
+        ensures room { result ≡ has_room (lines_in out.old) (frame.write self.now) }
+        ensures appends { Appends out.old out.new (frame.write self.now ∷ []) };
 
     // both round trips
     ghost laws: { FrameLaws frame };

@@ -7,7 +7,7 @@ ghost use Rattle.wire.specs.HomeTrips.{home_laws};
 
 use super::bytes::{byte_at, i32_at, i32_bytes};
 use super::frame::{Frame, FrameKind};
-use super::output::put_line;
+use super::output::Output;
 use interface::home::Home;
 
 // The number from byte `from + 8k` on, 0 past the first n.
@@ -103,8 +103,8 @@ impl Frame for Home {
         }
     }
 
-    fn write(&self, out: &mut [u8], at: usize) -> Option<usize> {
+    fn write(&self, out: &mut Output) -> bool {
         let bytes = home_bytes(self);
-        put_line(out, at, &bytes[0..home_size(self.n)])
+        out.put_line(&bytes[0..home_size(self.n)])
     }
 }

@@ -1,6 +1,6 @@
 use Rattle.std.proofs.Common.{[], ◌∷◌, refl}
 use Rattle.report_lines.specs.EndFrame.{end_frame}
-use Rattle.report_lines.proofs.Adding.{written_whole}
+use Rattle.wire.proofs.Adding.{written_whole}
 use Rattle.report_lines.proofs.ending.put_end.Goals as goal
 
 pub returns : goal.returns

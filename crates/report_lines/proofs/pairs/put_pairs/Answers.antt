@@ -1,5 +1,5 @@
 use Rattle.std.proofs.Common.{sym, refl, ◌∙◌, arith}
-use Rattle.report_lines.specs.Appending.{lines}
+use Rattle.wire.specs.Appending.{lines}
 use Rattle.report_lines.specs.RegionFrames.{pair_at, pair_frames}
 use Rattle.report_lines.proofs.Passing.{left_more, left_none}
 use Rattle.report_lines.proofs.pairs.put_pairs.Goals as goal

@@ -1,6 +1,6 @@
 use Rattle.std.proofs.Common.{◌≡◌, ◌-◌}
 use Rattle.std.specs.List.{range_with_len, flat_map}
-use Rattle.report_lines.specs.Appending.{lines, put_frames}
+use Rattle.wire.specs.Appending.{lines, put_frames}
 use Rattle.report_lines.specs.RegionFrames.{pair_at, pair_frames}
 use Rattle.report_lines.proofs.pairs.put_pairs.Given as goal
 

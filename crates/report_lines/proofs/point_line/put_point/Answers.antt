@@ -1,5 +1,5 @@
 use Rattle.std.proofs.Common.{◌≡◌, length, ap, ◌∙◌, rules}
-use Rattle.report_lines.specs.Appending.{lines, put_frame}
+use Rattle.wire.specs.Appending.{lines, put_frame}
 use Rattle.report_lines.proofs.Pointed.{point_front}
 use Rattle.report_lines.proofs.point_line.put_point.Goals as goal
 

@@ -1,6 +1,6 @@
 use Rattle.std.proofs.Common.{[], ◌∷◌, refl}
 use Rattle.wire.specs.FaultLine.{fault_frame}
-use Rattle.report_lines.proofs.Adding.{written_whole}
+use Rattle.wire.proofs.Adding.{written_whole}
 use Rattle.report_lines.proofs.refusal.put_refusal.Goals as goal
 
 pub returns : goal.returns

@@ -1,5 +1,5 @@
 use Rattle.report_lines.specs.RegionFrames.{region_frames}
-use Rattle.report_lines.proofs.Adding.{written_whole}
+use Rattle.wire.proofs.Adding.{written_whole}
 use Rattle.report_lines.proofs.Bounds.{region_bound}
 use Rattle.report_lines.proofs.Telling.{pairs_told}
 use Rattle.report_lines.proofs.region.put_region.Goals as goal

@@ -1,38 +1,14 @@
 -- Lines that all have room stand one after another: each is written where the one before it ends. Assumes nothing.
-use Rattle.std.proofs.Common.{◌≡◌, ℕ, ◌+◌, ◌*◌, ◌≤◌, true, ltb, List, [], ◌∷◌, ◌++◌, length, take, drop, Some, None, sym, refl, ap, ◌∙◌, arith}
+use Rattle.std.proofs.Common.{◌≡◌, ℕ, ◌+◌, ◌*◌, ◌≤◌, true, false, ltb, List, [], ◌∷◌, ◌++◌, length, Some, None, sym, refl, ap, ◌∙◌, arith}
 use Rattle.std.specs.List.{flat_map}
-use Rattle.std.proofs.lemmas.List.{append_assoc, length-append, length-drop, length-take-le, length_push, take_at, drop_at, drop-drop}
-use Rattle.std.proofs.lemmas.Bool.{cond-true, lt-ltb}
+use Rattle.std.proofs.lemmas.List.{length_push}
+use Rattle.std.proofs.lemmas.Bool.{cond-true, cond-false, lt-ltb, ltb-true}
 use Rattle.wire.specs.Bytes.{hex}
 use Rattle.wire.specs.Output.{written, line_of}
 use Rattle.wire.proofs.Hex.{length_hex}
-use Rattle.wire.proofs.Written.{written_none}
-use Rattle.report_lines.specs.Appending.{Lines, lines, place_after, put_frame, put_frames, line_size, lines_size, WrittenWhole}
-
-module _ (d : List ℕ) (i : ℕ) (s : List ℕ) (room : i + length s ≤ length d) where
-  abbrev front : List ℕ
-  front = take i d ++ s
-
-  front_long : length front ≡ i + length s
-  front_long = length-append (take i d) s ∙ ap (λ k. k + length s) (length-take-le i d (omega arith))
-
-  apart : written d i s ≡ front ++ drop (i + length s) d
-  unfolding written
-  apart = sym (append_assoc (take i d) s (drop (i + length s) d))
-
-  written_long : length (written d i s) ≡ length d
-  written_long = ap length apart ∙ length-append front (drop (i + length s) d) ∙ omega (arith, front_long, length-drop (i + length s) d)
-
-  -- what is written behind what was written
-  written_on : (t : List ℕ) → written (written d i s) (i + length s) t ≡ written d i (s ++ t)
-  unfolding written
-  written_on t =
-      let j = i + length s in
-      let rest = drop j d in
-      let start : take j (written d i s) ≡ front = ap (take j) apart ∙ take_at front rest j front_long in
-      let end : drop (j + length t) (written d i s) ≡ drop (i + length (s ++ t)) d =
-      sym (drop-drop (length t) j (written d i s)) ∙ ap (λ z. drop (length t) (drop j z)) apart ∙ ap (drop (length t)) (drop_at front rest j front_long) ∙ drop-drop (length t) j d ∙ ap (λ k. drop k d) (omega (arith, length-append s t)) in
-      (λ k. start k ++ (t ++ end k)) ∙ append_assoc (take i d) s (t ++ drop (i + length (s ++ t)) d) ∙ ap (λ z. take i d ++ z) (sym (append_assoc s t (drop (i + length (s ++ t)) d)))
+use Rattle.wire.proofs.Written.{written_none, written_long, written_on, writes_on}
+use Rattle.wire.specs.declared.output.Output.{Output}
+use Rattle.wire.specs.Appending.{Lines, lines, lines_in, has_room, Appends, Writes, place_after, put_frame, put_frames, line_size, lines_size, WrittenWhole}
 
 line_long : (bs : List ℕ) → length (line_of bs) ≡ line_size bs
 line_long bs = length_push (hex bs) 10 ∙ omega (arith, length_hex bs)
@@ -68,3 +44,28 @@ written_whole d i fs e j put room =
 pub put_on : (fs gs : List (List ℕ)) (s : Lines) → put_frames s (fs ++ gs) ≡ put_frames (put_frames s fs) gs
 put_on [] gs s = refl
 put_on (f ∷ fs) gs s = put_on fs gs (put_frame s f)
+
+-- an output with a line that has room, and without one that has none
+module _ (o : Output) (bs : List ℕ) where
+  pub fitting : (p q : Output) → has_room (lines_in o) bs ≡ true → Writes o p (hex bs) → Writes p q (10 ∷ []) → Appends o q (bs ∷ [])
+  fitting p q room digits feed =
+      let below = ltb-true (o.at + 2 * length bs) (length o.bytes.now) room in
+      let line = writes_on o p (hex bs) digits (omega (arith, length_hex bs)) q (10 ∷ []) feed in
+      let place = ap (λ k. lines (written o.bytes.now o.at (line_of bs)) (o.at + k)) (line_long bs) in
+      record { same_bytes = line.same_bytes; lines_put = line.bytes_put ∙ place ∙ sym (put_one o.bytes.now o.at bs (omega arith)) }
+
+  pub left_out : has_room (lines_in o) bs ≡ false → Appends o o (bs ∷ [])
+  left_out none =
+      let output = cond-false (has_room (lines_in o) bs) (written o.bytes.now o.at (line_of bs)) o.bytes.now none in
+      let place = ap (place_after o.at) (cond-false (has_room (lines_in o) bs) (Some (o.at + 2 * length bs + 1)) None none) in
+      record { same_bytes = refl; lines_put = sym (λ k. lines (output k) (place k)) }
+
+-- an output with the frames of two turns
+pub appends_none : (o : Output) → Appends o o []
+appends_none o = record { same_bytes = refl; lines_put = refl }
+
+pub appends_on : (a b c : Output) (fs gs : List (List ℕ)) → Appends a b fs → Appends b c gs → Appends a c (fs ++ gs)
+appends_on a b c fs gs p q = record {
+  same_bytes = q.same_bytes ∙ p.same_bytes;
+  lines_put = q.lines_put ∙ ap (λ (s : Lines). put_frames s gs) p.lines_put ∙ sym (put_on fs gs (lines_in a));
+}
