@@ -2,8 +2,6 @@
 ghost use Rattle.std.specs.Prelude.{◌≡◌};
 ghost use Rattle.search_theory.specs.Outcomes.{outcome_number};
 
-use std::convert::From;
-
 // Done: nothing waits. Spent: the budget is used up. ListFull and StackFull: the next step has no place to write to.
 #[derive(Clone, Copy, PartialEq, Eq, Debug)]
 pub enum Outcome {
