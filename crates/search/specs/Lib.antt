@@ -1,3 +1,4 @@
+pub mod Lending
 pub mod Meanings
 pub mod Promised
 pub mod Views

@@ -3,6 +3,7 @@
 
 pub mod classify;
 mod extents;
+pub mod lent;
 mod readings;
 pub mod refine;
 mod slot;

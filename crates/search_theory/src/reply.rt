@@ -2,7 +2,7 @@
 use super::report::Report;
 
 // A run answers its report, a limit its number; any other call answers nothing more.
-#[derive(Clone, Copy)]
+#[derive(Clone, Copy, PartialEq, Eq, Debug)]
 pub enum Reply {
     Accepted,
     Ran(Report),

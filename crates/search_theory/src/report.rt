@@ -2,7 +2,7 @@
 use super::outcome::Outcome;
 
 // `count` regions stand at the front of the out slice; `found` says whether any was handed out since the search began.
-#[derive(Clone, Copy)]
+#[derive(Clone, Copy, PartialEq, Eq, Debug)]
 pub struct Report {
     pub outcome: Outcome,
     pub steps: u32,

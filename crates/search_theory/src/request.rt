@@ -1,7 +1,7 @@
 // A call of the solver, as data.
 
 // Run carries its budget, Limit its two nodes.
-#[derive(Clone, Copy)]
+#[derive(Clone, Copy, Debug)]
 pub enum Request<R> {
     State(R),
     Mark,

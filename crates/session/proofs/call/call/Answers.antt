@@ -7,4 +7,5 @@ returns g c =
     record {
       answers = c.call.ensures.answers;
       promise = λ l rest more deep h. let p = c.call.ensures.promise l rest more deep h in (p.0, p.1 octagon_exact);
+      same_slices = c.call.ensures.same_slices;
     }

@@ -2,14 +2,15 @@
 use Rattle.std.proofs.Common.{sym, subst}
 use Rattle.search_theory.specs.Requests.{World}
 use Rattle.search_theory.proofs.Promise.{promised}
+use Rattle.search.specs.Lending.{world_with}
 use Rattle.search.specs.Promised.{Promised}
-use Rattle.search.specs.Views.{world_of}
 use Rattle.search.proofs.solver.Solver.call.Goals as goal
 
 pub returns : goal.returns
 returns g c =
-    let w : World g.row.S.Denot g.row.R.Denot = world_of c.args.self.now c.args.rules.now c.args.checkpoints.now c.args.stack.now in
+    let w : World g.row.S.Denot g.row.R.Denot = world_with c.args.self.now c.args.lent.now in
     record {
-      answers = c.call_any.ensures;
-      promise = subst (Promised g.S.Shape.model g.R.Rule.model w c.args.request) (sym c.call_any.ensures) (λ l rest more deep h. promised g.met.S.Shape.laws g.met.R.Rule.laws l w rest more deep h c.args.out.now c.args.request);
+      answers = c.call_any.ensures.answers;
+      promise = subst (Promised g.S.Shape.model g.R.Rule.model w c.args.request) (sym c.call_any.ensures.answers) (λ l rest more deep h. promised g.met.S.Shape.laws g.met.R.Rule.laws l w rest more deep h c.args.lent.now.out.now c.args.request);
+      same_slices = c.call_any.ensures.same_slices;
     }
