@@ -1,7 +1,8 @@
 -- Half of at most 2 ^ (b + 1) values is at most 2 ^ b, so a halved direction needs one bit less; sums over the list follow. Assumes nothing.
 use Rattle.std.proofs.Common.{◌≡◌, ℕ, zero, suc, ◌+◌, ◌-◌, ◌*◌, ◌^◌, ◌<◌, ◌≤◌, Bool, leb, List, [], ◌∷◌, length, get_or, sym, subst, ⊎_elim, le_trans, le_antisymm, pow-suc, arith, pow_mono}
 use lib.Count.{count_leading_zeros, leading_length}
-use Rattle.std.proofs.lemmas.List.Sums.{sum_by-cons}
+use Rattle.std.proofs.lemmas.List.Elements.{All-from_get_or}
+use Rattle.std.proofs.lemmas.List.Sums.{sum_by-cons, sum_by-le}
 use Rattle.std.proofs.lemmas.Bool.{both_ways, leb-true, le-leb, cases_lt}
 use Rattle.halving.specs.First.{first_below}
 use Rattle.halving.specs.Halvings.{bits_for, LeastPower, halvings_of, Narrower, HalvedAt, HalvingLowers}
@@ -16,10 +17,10 @@ pub bits_least : (m : ℕ) → LeastPower m (bits_for m)
 unfolding bits_for
 bits_least m =
     let t : ℕ → Bool = λ b. leb m (2 ^ b) in
-    let f = first_is t 0 m in
+    let f = first_is t m in
     let b : ℕ = first_below t m in (
-      ⊎_elim (λ (h : b < m). leb-true m (2 ^ b) (f.2 (omega arith))) (λ (h : m ≤ b). le_trans (omega (arith, below_pow m)) (pow_mono h)) (cases_lt b m),
-      λ a h. ⊎_elim (λ (l : a < b). absurd (both_ways (t a) (f.3 a (omega arith) l) (le-leb m (2 ^ a) h))) (λ (l : b ≤ a). l) (cases_lt a b),
+      ⊎_elim (λ (h : b < m). leb-true m (2 ^ b) (f.passes (omega arith))) (λ (h : m ≤ b). le_trans (omega (arith, below_pow m)) (pow_mono h)) (cases_lt b m),
+      λ a h. ⊎_elim (λ (l : a < b). absurd (both_ways (t a) (f.none_before a l) (le-leb m (2 ^ a) h))) (λ (l : b ≤ a). l) (cases_lt a b),
     )
 
 pub bits_unique : (m b : ℕ) → LeastPower m b → b ≡ bits_for m
@@ -35,6 +36,13 @@ digits_least w h =
 -- fewer values want no more bits
 pub bits_mono : (m n : ℕ) → m ≤ n → bits_for m ≤ bits_for n
 bits_mono m n h = (bits_least m).1 (bits_for n) (le_trans h (bits_least n).0)
+
+-- the sum of eight counts of at most 32 bits
+pub halvings_fit : (ws : List ℕ) → length ws ≡ 8 → ((k : ℕ) → get_or ws k 0 < 2 ^ 32) → halvings_of ws < 2 ^ 32
+halvings_fit ws l h =
+    let f : ℕ → ℕ = λ w. bits_for (w + 1) in
+    let most = sum_by-le f 32 ws (All-from_get_or (λ w. f w ≤ 32) ws 0 (λ k _. (bits_least (get_or ws k 0 + 1)).1 32 (omega (arith, h k)))) in
+    omega arith
 
 -- at least two values, halved, want fewer
 pub bits_half : (v w : ℕ) → 0 < w → 2 * v ≤ w → bits_for (v + 1) < bits_for (w + 1)

@@ -1,15 +1,11 @@
 -- Tests of numbers, and the first number that passes one. Assumes nothing.
-use Rattle.std.specs.Prelude.{ℕ, zero, suc, Bool, true, cond, ◌&&◌}
+use Rattle.std.specs.Prelude.{ℕ, Bool}
+use Rattle.std.specs.List.{list_all, position_or_len, range_with_len}
 
 -- every number below n passes
-unfoldable pub every : (ℕ → Bool) → ℕ → Bool
-every t zero = true
-every t (suc n) = t n && every t n
+abbrev pub every : (ℕ → Bool) → ℕ → Bool
+every t n = list_all t (range_with_len 0 n)
 
--- the first of the n numbers from a on that passes, and where none does the number after them
-unfoldable pub first_from : (ℕ → Bool) → ℕ → ℕ → ℕ
-first_from t a zero = a
-first_from t a (suc n) = cond (t a) a (first_from t (suc a) n)
-
+-- the first number below n that passes, and where none does n
 abbrev pub first_below : (ℕ → Bool) → ℕ → ℕ
-first_below t n = first_from t 0 n
+first_below t n = position_or_len t (range_with_len 0 n)

@@ -1,6 +1,7 @@
 -- Widths of ranges: which is the widest, which hold one value, and how often they can be halved. Assumes nothing.
 use Rattle.std.specs.Prelude.{◌≡◌, ℕ, ◌+◌, ◌*◌, ◌^◌, ◌<◌, ◌≤◌, Bool, List, length, ℤ, ◌-ℤ◌, sum_by, nat_eq, nat_le, slice_index, unsigned_abs}
-use Rattle.halving.specs.First.{every, first_below}
+use Rattle.std.specs.List.{list_all, position_or_len}
+use Rattle.halving.specs.First.{first_below}
 
 -- the width of a range is its high less its low, so a range of width w has w + 1 values
 abbrev pub width : ℤ → ℤ → ℕ
@@ -20,11 +21,11 @@ halvings_of ws = sum_by (λ w. bits_for (w + 1)) ws
 
 -- the first place whose width is not below any other's
 unfoldable pub widest_of : List ℕ → ℕ
-widest_of ws = first_below (λ k. every (λ j. nat_le (slice_index ws j) (slice_index ws k)) (length ws)) (length ws)
+widest_of ws = position_or_len (λ w. list_all (λ v. nat_le v w) ws) ws
 
 -- no range has two values
 abbrev pub all_single : List ℕ → Bool
-all_single ws = every (λ k. nat_eq (slice_index ws k) 0) (length ws)
+all_single ws = list_all (λ w. nat_eq w 0) ws
 
 -- The directions are the places of a list, with their widths before (ws) and after (vs).
 abbrev pub Narrower : List ℕ → List ℕ → Type 0

@@ -1,12 +1,14 @@
 -- The least point built value by value: the greatest of the bounds so far, and the values so far. Assumes nothing.
-use Rattle.std.specs.Prelude.{◌≡◌, ℕ, zero, suc, ◌+◌, ◌-◌, ◌*◌, ◌/◌, ◌%◌, ◌<◌, ◌≤◌, Bool, ◌&&◌, List, [], ◌∷◌, ◌++◌, map, length, take, drop, replicate, ℤ, pos, ◌+ℤ◌, ◌-ℤ◌, neg_ℤ, fold, int_le, slice_set, refl}
+use Rattle.std.specs.Prelude.{◌≡◌, ℕ, zero, suc, ◌+◌, ◌-◌, ◌*◌, ◌/◌, ◌%◌, ◌<◌, ◌≤◌, Bool, List, [], ◌∷◌, ◌++◌, map, length, take, drop, replicate, ℤ, pos, ◌+ℤ◌, ◌-ℤ◌, neg_ℤ, fold, int_le, slice_set, refl}
 use Rattle.std.proofs.Common.{append_assoc, sym, ap, ◌∙◌, arith, length-set}
 use Rattle.std.specs.List.{range_with_len}
 use Rattle.std.specs.Int.{int_max}
 use Rattle.std.proofs.lemmas.List.FromFn.{map-range_with_len_more}
 use Rattle.std.proofs.lemmas.List.{get_or-take, take_more_set, drop-set-lt, drop-drop, drop-replicate, length-take-le, take-append-drop, append-nil}
 use Rattle.std.proofs.lemmas.List.Sums.{fold_push}
+use Rattle.std.proofs.lemmas.Bool.Decides.{same_from_decides, Decides-like}
 use Rattle.halving.specs.First.{every}
+use Rattle.halving.proofs.First.{every_decides}
 use Rattle.interface.specs.Nodes.{value}
 use Rattle.interface.specs.Numbers.{half}
 use Rattle.octagon_theory.specs.Matrices.{next_value}
@@ -16,9 +18,7 @@ use Rattle.octagon.specs.Octagons.{narrow, least_from, row_under, all_under}
 
 -- tests that agree below n
 pub every_same : (t u : ℕ → Bool) (n : ℕ) → ((k : ℕ) → k < n → t k ≡ u k) → every t n ≡ every u n
-unfolding every
-every_same t u zero h = refl
-every_same t u (suc n) h = let e = every_same t u n (λ k l. h k (omega arith)) in let f = h n (omega arith) in λ i. f i && e i
+every_same t u n h = same_from_decides (every t n) (every u n) (every_decides t n) (Decides-like (every u n) (λ f k l. h k l ∙ f k l) (λ f k l. sym (h k l) ∙ f k l) (every_decides u n))
 
 -- the values at the nodes of the first n settings
 pub value_take : (n : ℕ) (xs : List ℤ) (p : ℕ) → p < 2 * n → value (take n xs) p ≡ value xs p

@@ -6,7 +6,7 @@ use Rattle.std.proofs.lemmas.List.FromFn.{get_or-map-range_with_len, length-map-
 use Rattle.std.proofs.lemmas.List.{get_or_past}
 use Rattle.std.proofs.lemmas.Bool.{cases_Bool, cases_lt, eqb-true, eq-eqb, both_ways}
 use Rattle.halving.specs.Halvings.{width, widest_of, all_single, Narrower}
-use Rattle.halving.proofs.First.{every_decides}
+use Rattle.halving.proofs.First.{all_decides}
 use Rattle.halving.proofs.Places.{Widest, widest_is}
 use Rattle.interface.specs.declared.cut.Cut.{Cut}
 use Rattle.interface.specs.declared.home.Home.{Home}
@@ -40,7 +40,7 @@ pos_unsigned_abs (negsuc n) h = absurd (omega (arith, ints))
 
 -- every width is 0, or the widest one is not
 pub single_says : (L : ℕ → ℕ → ℤ) → all_single (widths L) ≡ true → (k : ℕ) → k < 8 → width_at L k ≡ 0
-single_says L e k h = sym (getD_widths L k h) ∙ eqb-true (slice_index (widths L) k) 0 ((every_decides (λ k. nat_eq (slice_index (widths L) k) 0) (length (widths L))).0 e k (let l = length_widths L in omega arith))
+single_says L e k h = sym (getD_widths L k h) ∙ eqb-true (slice_index (widths L) k) 0 ((all_decides (λ w. nat_eq w 0) (widths L)).0 e k (let l = length_widths L in omega arith))
 
 pub record WidestOf (L : ℕ → ℕ → ℤ) : Type 0 where
   pub room : widest_at L < 8
@@ -57,7 +57,7 @@ open_says L e =
   where
     by : Widest (widths L) (length (widths L)) (widest_of (widths L)) → widest_of (widths L) < 8 → slice_index (widths L) (widest_of (widths L)) ≡ width_at L (widest_of (widths L)) → (0 < slice_index (widths L) (widest_of (widths L))) ⊎ (slice_index (widths L) (widest_of (widths L)) ≤ 0) → 0 < width_at L (widest_of (widths L))
     by w r g (inl h) = omega arith
-    by w r g (inr h) = absurd (both_ways (all_single (widths L)) e ((every_decides (λ k. nat_eq (slice_index (widths L) k) 0) (length (widths L))).1 (λ k b. eq-eqb (slice_index (widths L) k) 0 (let m = w.1 k b in omega arith))))
+    by w r g (inr h) = absurd (both_ways (all_single (widths L)) e ((all_decides (λ w. nat_eq w 0) (widths L)).1 (λ k b. eq-eqb (slice_index (widths L) k) 0 (let m = w.1 k b in omega arith))))
 
 module _ (h : Home) (ok : Passes h) (ts : List Cut) where
   pub limit_small : (p q : ℕ) → Small 2000000 (limit h ts p q)

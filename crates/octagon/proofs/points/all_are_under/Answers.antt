@@ -1,11 +1,8 @@
 use Rattle.std.proofs.Common.{◌&&◌, sym, ap, ◌∙◌, arith}
 use Rattle.halving.specs.First.{every}
-use Rattle.halving.proofs.First.{every_more, every_none}
+use Rattle.halving.proofs.First.{every_more}
 use Rattle.octagon.specs.Octagons.{row_under, all_under}
 use Rattle.octagon.proofs.points.all_are_under.Goals as goal
-
-pub loop-p-init : goal.loop-p-init
-loop-p-init c = sym (every_none _)
 
 pub loop-p-preserved : goal.loop-p-preserved
 loop-p-preserved c =

@@ -1,13 +1,10 @@
 use Rattle.std.proofs.Common.{ℕ, Bool, ◌&&◌, ◌+ℤ◌, sym, ap, ◌∙◌, arith}
 use lib.Signed.{le_z}
 use Rattle.halving.specs.First.{every}
-use Rattle.halving.proofs.First.{every_more, every_none}
+use Rattle.halving.proofs.First.{every_more}
 use Rattle.interface.specs.Nodes.{value}
 use Rattle.octagon.specs.Entries.{at}
 use Rattle.octagon.proofs.points.row_is_under.Goals as goal
-
-pub loop-q-init : goal.loop-q-init
-loop-q-init c = sym (every_none _)
 
 pub loop-q-preserved : goal.loop-q-preserved
 loop-q-preserved c =
