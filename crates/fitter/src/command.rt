@@ -26,9 +26,12 @@ fn read_home(words: &[&str]) -> Option<Home> {
         lows: [0; 8],
         highs: [0; 8],
     };
-    for k in 0..words.len() / 2 {
-        let low = number(words[2 * k])?;
-        let high = number(words[2 * k + 1])?;
+    for (k, ends) in words.chunks_exact(2).enumerate() {
+        let [low, high] = ends else {
+            return None;
+        };
+        let low = number(low)?;
+        let high = number(high)?;
         if k < 8 {
             home.lows[k] = low;
             home.highs[k] = high;

@@ -1,5 +1,5 @@
 // How many rules and checkpoints stand, counted from what the session accepted, for the words that are printed.
-ghost use Rattle.std.specs.Prelude.{◌≡◌, ◌-◌, ◌<◌, length, Some};
+ghost use Rattle.std.specs.Prelude.{◌≡◌, ◌-◌};
 ghost use Rattle.std.specs.List.{slice_get};
 ghost use Rattle.fitter.specs.Counting.{one_more, back_to, moved, after};
 
@@ -23,26 +23,18 @@ fn one_more(places: usize, count: usize) -> usize
     if places <= count { count } else { count + 1 }
 }
 
-fn checkpoint_at(checkpoints: &[Checkpoint<Octagon>], i: usize) -> Checkpoint<Octagon>
-    requires { i < length checkpoints.now }
-    ensures { slice_get checkpoints.now i ≡ Some result }
-{
-    checkpoints[i]
-}
-
 impl Counts {
     // As the last checkpoint noted them, where there is one.
     fn back(&self, checkpoints: &[Checkpoint<Octagon>]) -> Counts
         ensures { result ≡ back_to self.now (slice_get checkpoints.now (self.now.marks - 1)) }
     {
         let last = self.marks.saturating_sub(1);
-        if last >= checkpoints.len() {
-            return *self;
-        }
-        let checkpoint = checkpoint_at(checkpoints, last);
-        Counts {
-            rules: checkpoint.rules,
-            marks: last,
+        match checkpoints.get(last) {
+            Some(checkpoint) => Counts {
+                rules: checkpoint.rules,
+                marks: last,
+            },
+            None => *self,
         }
     }
 
@@ -53,21 +45,18 @@ impl Counts {
         match request {
             Request::State(_) => Counts {
                 rules: one_more(32, self.rules),
-                marks: self.marks,
+                ..*self
             },
             Request::Mark => Counts {
-                rules: self.rules,
                 marks: one_more(4, self.marks),
+                ..*self
             },
             Request::Back => self.back(checkpoints),
             Request::Keep => Counts {
-                rules: self.rules,
                 marks: self.marks.saturating_sub(1),
+                ..*self
             },
-            Request::Begin => *self,
-            Request::Run(_) => *self,
-            Request::Leave => *self,
-            Request::Limit(_, _) => *self,
+            Request::Begin | Request::Run(_) | Request::Leave | Request::Limit(_, _) => *self,
         }
     }
 

@@ -1,4 +1,4 @@
-// The grounds of a refusal in words.
+// The grounds of a refusal in words: the faults are another crate's, so no Display of theirs can stand here.
 use interface::fault::{RecordFault, SolverFault};
 
 fn of_record(fault: RecordFault) -> &'static str {

@@ -15,8 +15,7 @@ use interface::point::Point;
 use interface::shape::Shape;
 use octagon::matrix::Octagon;
 use rules::any::AnyRule;
-use rules::joined::Joined;
-use rules::pair::PairRule;
+use search::lent::Lent;
 use search::solver::Solver;
 use search_theory::checkpoint::Checkpoint;
 use search_theory::region::Region;
@@ -37,7 +36,7 @@ impl Memory {
             values: [0; 8],
         };
         Memory {
-            rules: [Joined::First(PairRule { p: 0, q: 0, c: 0 }); 32],
+            rules: [AnyRule::default(); 32],
             checkpoints: [Checkpoint { shape, rules: 0 }; 4],
             stack: [shape; 169],
             regions: [Region { shape, point }; 4],
@@ -62,13 +61,12 @@ impl Memory {
         ensures promise { PromisedWhole octagon_model any_model (world solver.old self.old) request (answered_by result (world solver.new self.new) self.new.regions) }
         ensures session { Session (Some solver.old) self.old → Session (Some solver.new) self.new }
     {
-        call(
-            solver,
-            &mut self.rules,
-            &mut self.checkpoints,
-            &mut self.stack,
-            &mut self.regions,
-            request,
-        )
+        let mut lent = Lent {
+            rules: &mut self.rules,
+            checkpoints: &mut self.checkpoints,
+            stack: &mut self.stack,
+            out: &mut self.regions,
+        };
+        call(solver, &mut lent, request)
     }
 }

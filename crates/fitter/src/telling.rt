@@ -71,10 +71,7 @@ fn outcome_words(outcome: Outcome) -> &'static str {
 fn no_setting(report: &Report) -> bool
     ensures { result ≡ none_exists report.now }
 {
-    match report.outcome {
-        Outcome::Done => !report.found,
-        _ => false,
-    }
+    report.outcome == Outcome::Done && !report.found
 }
 
 fn tell_run(rt: &HostRuntime, report: Report, regions: &[Region<Octagon>]) -> io::Result<()> {
@@ -102,8 +99,7 @@ fn tell_accepted(rt: &HostRuntime, counts: Counts, request: Request<AnyRule>) ->
         Request::Begin => println!(rt; "search begun"),
         Request::Leave => println!(rt; "search left"),
         // a run and a limit answer more than that
-        Request::Run(_) => Ok(()),
-        Request::Limit(_, _) => Ok(()),
+        Request::Run(_) | Request::Limit(_, _) => Ok(()),
     }
 }
 
