@@ -11,7 +11,7 @@ use Rattle.problem.specs.declared.problem.Refusal.{Refusal}
 use Rattle.problem.specs.AnyRules.{filler}
 use Rattle.problem.specs.Reading.{Stated, read_text}
 use Rattle.report_lines.proofs.Bounds.{size_on, regions_bound}
-use Rattle.report_lines.specs.Appending.{lines_size}
+use Rattle.wire.specs.Appending.{lines_size}
 use Rattle.report_lines.specs.EndFrame.{end_frame}
 use Rattle.rules.proofs.AnyLaws.{any_laws}
 use Rattle.rules.specs.Any.{AnyRule, any_model}

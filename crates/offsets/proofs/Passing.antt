@@ -1,12 +1,15 @@
 -- One item more, and what is left gives the result; what opening gives. Assumes nothing.
-use Rattle.std.proofs.Common.{◌≡◌, ℕ, ◌+◌, ◌<◌, ◌≤◌, List, [], ◌∷◌, map, length, get_or, drop, Ok, Err, Result, sym, refl, ap, ◌∙◌}
-use Rattle.std.proofs.lemmas.List.{drop_more, drop_all}
+use Rattle.std.proofs.Common.{◌≡◌, ℕ, ◌+◌, ◌<◌, ◌≤◌, List, [], ◌∷◌, ◌++◌, map, length, get_or, take, drop, Ok, Err, Result, sym, refl, ap, ◌∙◌, subst}
+use Rattle.std.proofs.lemmas.Grind.{flat_map-append}
+use Rattle.std.proofs.lemmas.List.{drop_more, drop_all, take_more, take_all, append-nil}
+use Rattle.std.proofs.lemmas.List.Concat.{flat_map-cons}
 use Rattle.std.specs.List.{flat_map}
 use Rattle.interface.specs.declared.fault.RecordFault.{RecordFault}
 use Rattle.interface.specs.declared.fault.SolverFault.{SolverFault}
 use Rattle.interface.specs.declared.fault.SolverFault.TheVariants.{Record}
-use Rattle.report_lines.proofs.Adding.{put_on}
-use Rattle.report_lines.specs.Appending.{Lines, put_frames}
+use Rattle.wire.proofs.Adding.{appends_on}
+use Rattle.wire.specs.declared.output.Output.{Output}
+use Rattle.wire.specs.Appending.{Appends}
 use Rattle.search_theory.proofs.Cases.{ok≢err}
 use Rattle.search_theory.proofs.Grounds.{ok_same}
 use Rattle.search_theory.specs.Solving.{decided}
@@ -15,15 +18,16 @@ use Rattle.search_theory.specs.Solving.{decided}
 first_left : {A : Type 0} (xs : List A) (i : ℕ) (d x : A) → i < length xs → x ≡ get_or xs i d → drop i xs ≡ x ∷ drop (i + 1) xs
 first_left xs i d x h e = drop_more xs i d h ∙ ap (λ y. y ∷ drop (i + 1) xs) (sym e)
 
--- the frames of each item in turn
-pub frames_more : {A : Type 0} (f : A → List (List ℕ)) (xs : List A) (i : ℕ) (d x : A) (s t : Lines) → i < length xs → x ≡ get_or xs i d → t ≡ put_frames s (f x) → put_frames t (flat_map f (drop (i + 1) xs)) ≡ put_frames s (flat_map f (drop i xs))
-frames_more f xs i y x s t h e d =
-    ap (λ a. put_frames a (flat_map f (drop (i + 1) xs))) d
-    ∙ sym (put_on (f x) (flat_map f (drop (i + 1) xs)) s)
-    ∙ ap (λ ys. put_frames s (flat_map f ys)) (sym (first_left xs i y x h e))
+-- the frames of the items that were passed, and of one more
+pub appends_more : {A : Type 0} (f : A → List (List ℕ)) (xs : List A) (i : ℕ) (d x : A) (o m n : Output) → i < length xs → x ≡ get_or xs i d → Appends o m (flat_map f (take i xs)) → Appends m n (f x) → Appends o n (flat_map f (take (i + 1) xs))
+appends_more f xs i y x o m n h e before here =
+    let passed = take_more xs i y h ∙ ap (λ z. take i xs ++ z ∷ []) (sym e) in
+    let frames = ap (flat_map f) passed ∙ flat_map-append f (take i xs) (x ∷ []) ∙ ap (λ fs. flat_map f (take i xs) ++ fs) (flat_map-cons f x [] ∙ append-nil (f x)) in
+    subst (Appends o n) (sym frames) (appends_on o m n (flat_map f (take i xs)) (f x) before here)
 
-pub frames_done : {A : Type 0} (f : A → List (List ℕ)) (xs : List A) (i : ℕ) (s : Lines) → length xs ≤ i → s ≡ put_frames s (flat_map f (drop i xs))
-frames_done f xs i s h = ap (λ ys. put_frames s (flat_map f ys)) (sym (drop_all i xs h))
+-- all items were passed
+pub appends_all : {A : Type 0} (f : A → List (List ℕ)) (xs : List A) (i : ℕ) (o n : Output) → length xs ≤ i → Appends o n (flat_map f (take i xs)) → Appends o n (flat_map f xs)
+appends_all f xs i o n h before = subst (λ ys. Appends o n (flat_map f ys)) (take_all i xs h) before
 
 -- a fold over the items in turn
 pub fold_more : {A W : Type 0} (g : W → List A → W) (step : W → A → W) → ((w : W) (x : A) (xs : List A) → g w (x ∷ xs) ≡ g (step w x) xs) → (xs : List A) (i : ℕ) (d x : A) (w v : W) → i < length xs → x ≡ get_or xs i d → v ≡ step w x → g v (drop (i + 1) xs) ≡ g w (drop i xs)

@@ -3,7 +3,7 @@ use Rattle.std.specs.Prelude.{◌≡◌, ℕ, ◌≤◌, cond, ◌≢◌, List, 
 use Rattle.std.specs.List.{flat_map}
 use Rattle.interface.specs.Shapes.{ShapeModel}
 use Rattle.problem.specs.Reading.{Stated, read_text}
-use Rattle.report_lines.specs.Appending.{lines_size}
+use Rattle.wire.specs.Appending.{lines_size}
 use Rattle.rules.specs.Any.{any_model}
 use Rattle.search_theory.specs.declared.outcome.Outcome.TheVariants.{StackFull}
 use Rattle.search_theory.specs.declared.region.Region.{Region}

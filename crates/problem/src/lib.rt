@@ -2,6 +2,5 @@
 #![tactic(auto)]
 
 pub mod any_rule;
-pub mod front;
 pub mod problem;
 mod reading;

@@ -2,7 +2,7 @@ use Rattle.std.proofs.Common.{◌≡◌, ◌<◌, ◌≤◌, true, false, ltb, l
 use Rattle.std.proofs.lemmas.Bool.{lt-ltb, le-ltb, cond-true, cond-false}
 use Rattle.octagon.specs.Octagons.{octagon_model}
 use Rattle.offsets.specs.Entry.{entry_frames}
-use Rattle.report_lines.proofs.Adding.{written_whole}
+use Rattle.wire.proofs.Adding.{written_whole}
 use Rattle.offsets.proofs.Answering.{told_of, frames_fit}
 use Rattle.offsets.proofs.entry.offsets_solve.Goals as goal
 
