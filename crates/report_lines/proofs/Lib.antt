@@ -1,4 +1,3 @@
 pub mod Bounds
-pub mod Passing
 pub mod Pointed
 pub mod Telling

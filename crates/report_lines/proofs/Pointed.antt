@@ -5,14 +5,14 @@ use Rattle.std.proofs.lemmas.List.FromFn.{fill_by_all, take-map-range_with_len}
 use Rattle.std.proofs.lemmas.List.{get_or-take, length-take-le}
 use Rattle.std.proofs.lemmas.Bool.{cond-false, ne_eqb}
 use Rattle.interface.specs.declared.point.Point.{Point}
-use Rattle.wire.specs.HomeFrame.{word_byte}
-use Rattle.report_lines.specs.RegionFrames.{word, point_values, point_frame, value_byte, point_byte}
+use Rattle.wire.specs.Words.{word_byte, words_byte, words_frame_byte}
+use Rattle.report_lines.specs.RegionFrames.{word, point_values, point_frame}
 
 pub words_long : (vs : List ℤ) → length (flat_map word vs) ≡ 4 * length vs
 words_long [] = refl
 words_long (v ∷ vs) = omega (arith, words_long vs)
 
-words_at : (vs : List ℤ) (j : ℕ) → j < 4 * length vs → get_or (flat_map word vs) j 0 ≡ value_byte vs j
+words_at : (vs : List ℤ) (j : ℕ) → j < 4 * length vs → get_or (flat_map word vs) j 0 ≡ words_byte vs j
 words_at [] j h = absurd (omega arith)
 words_at (v ∷ vs) zero h = refl
 words_at (v ∷ vs) (suc zero) h = refl
@@ -30,22 +30,22 @@ module _ (x : Point) (eight : length x.values ≡ 8) where
   values_long : length (point_values x) ≡ count
   values_long = length-take-le count x.values (omega arith)
 
-  frame_at : (j : ℕ) → j < 2 + 4 * count → get_or (point_frame x) j 0 ≡ point_byte x j
+  frame_at : (j : ℕ) → j < 2 + 4 * count → get_or (point_frame x) j 0 ≡ words_frame_byte 16 x.n x.values j
   frame_at zero h = refl
   frame_at (suc zero) h = refl
   frame_at (suc (suc j)) h =
       let i = suc (suc j) in
       let back : i - 2 ≡ j = omega arith in
-      let value : point_byte x i ≡ value_byte x.values j =
-      cond-false (eqb i 0) 16 (cond (eqb i 1) x.n (value_byte x.values (i - 2))) (ne_eqb i 0 (λ e. omega arith))
-      ∙ cond-false (eqb i 1) x.n (value_byte x.values (i - 2)) (ne_eqb i 1 (λ e. omega arith))
-      ∙ ap (value_byte x.values) back in
+      let value : words_frame_byte 16 x.n x.values i ≡ words_byte x.values j =
+      cond-false (eqb i 0) 16 (cond (eqb i 1) x.n (words_byte x.values (i - 2))) (ne_eqb i 0 (λ e. omega arith))
+      ∙ cond-false (eqb i 1) x.n (words_byte x.values (i - 2)) (ne_eqb i 1 (λ e. omega arith))
+      ∙ ap (words_byte x.values) back in
       words_at (point_values x) j (omega (arith, values_long)) ∙ ap (λ v. word_byte v (j % 4)) (get_or-take count x.values (j / 4) (pos 0) (omega arith)) ∙ sym value
 
-  frame_is : point_frame x ≡ map (point_byte x) (range_with_len 0 (2 + 4 * count))
-  frame_is = fill_by_all (point_byte x) (point_frame x) (2 + 4 * count) 0 (omega (arith, words_long (point_values x), values_long)) frame_at
+  frame_is : point_frame x ≡ map (words_frame_byte 16 x.n x.values) (range_with_len 0 (2 + 4 * count))
+  frame_is = fill_by_all (words_frame_byte 16 x.n x.values) (point_frame x) (2 + 4 * count) 0 (omega (arith, words_long (point_values x), values_long)) frame_at
 
   -- the bytes of eight settings begin with those of n
-  pub point_front : (bytes : List ℕ) (size : ℕ) → bytes ≡ map (point_byte x) (range_with_len 0 34) → size ≡ 2 + 4 * count → take (size - 0) bytes ≡ point_frame x
+  pub point_front : (bytes : List ℕ) (size : ℕ) → bytes ≡ map (words_frame_byte 16 x.n x.values) (range_with_len 0 34) → size ≡ 2 + 4 * count → take size bytes ≡ point_frame x
   point_front bytes size e s =
-      ap (λ k. take k bytes) (omega arith) ∙ ap (take (2 + 4 * count)) e ∙ take-map-range_with_len (point_byte x) 0 34 (2 + 4 * count) (omega arith) ∙ sym frame_is
+      ap (λ k. take k bytes) s ∙ ap (take (2 + 4 * count)) e ∙ take-map-range_with_len (words_frame_byte 16 x.n x.values) 0 34 (2 + 4 * count) (omega arith) ∙ sym frame_is

@@ -1,5 +1,5 @@
 -- The frames of a region, from its limits and its point alone. Assumes nothing.
-use Rattle.std.specs.Prelude.{ℕ, ◌+◌, ◌-◌, ◌*◌, ◌/◌, ◌%◌, min, Bool, cond, not, ◌&&◌, List, [], ◌∷◌, take, ℤ, pos, ◌+ℤ◌, neg_ℤ, ◌==◌, int_lt, nat_lt, slice_index_or}
+use Rattle.std.specs.Prelude.{ℕ, ◌*◌, ◌/◌, ◌%◌, min, Bool, cond, not, ◌&&◌, List, [], ◌∷◌, take, ℤ, ◌+ℤ◌, ◌==◌, int_lt, nat_lt}
 use Rattle.std.specs.Int.{w32}
 use Rattle.std.proofs.Common.{of_z}
 use Rattle.std.specs.List.{range_with_len, flat_map}
@@ -8,9 +8,9 @@ use Rattle.interface.specs.declared.point.Point.{Point}
 use Rattle.interface.specs.declared.reading.Reading.{Reading}
 use Rattle.interface.specs.Nodes.{opp}
 use Rattle.interface.specs.Numbers.{half}
-use Rattle.interface.specs.Readings.{limit_at}
+use Rattle.interface.specs.Readings.{limit_at, low_in, high_in}
 use Rattle.wire.specs.Bytes.{be}
-use Rattle.wire.specs.HomeFrame.{word_byte, eight, write_home}
+use Rattle.wire.specs.HomeFrame.{eight, write_home}
 
 -- the four bytes of a number by two's complement, the highest first
 abbrev pub word : ℤ → List ℕ
@@ -24,23 +24,9 @@ point_values x = take (min x.n 8) x.values
 abbrev pub point_frame : Point → List ℕ
 point_frame x = 16 ∷ x.n ∷ flat_map word (point_values x)
 
--- byte j of the values one after another, and of the point's frame
-abbrev pub value_byte : List ℤ → ℕ → ℕ
-value_byte vs j = word_byte (slice_index_or vs (j / 4) (pos 0)) (j % 4)
-
-abbrev pub point_byte : Point → ℕ → ℕ
-point_byte x j = cond (j == 0) 16 (cond (j == 1) x.n (value_byte x.values (j - 2)))
-
--- the least and the greatest value of setting k, from the limits of its two nodes with themselves
-abbrev pub low_at : Reading → ℕ → ℤ
-low_at g k = neg_ℤ (half (limit_at g (2 * k + 1) (2 * k + 1)))
-
-abbrev pub high_at : Reading → ℕ → ℤ
-high_at g k = half (limit_at g (2 * k) (2 * k))
-
 -- the ranges as a home; 0 past the settings
 abbrev pub ranges_of : Reading → Home
-ranges_of g = record { n = g.n; lows = eight g.n (low_at g); highs = eight g.n (high_at g) }
+ranges_of g = record { n = g.n; lows = eight g.n (low_in g); highs = eight g.n (high_in g) }
 
 abbrev pub ranges_frame : Reading → List ℕ
 ranges_frame g = write_home (ranges_of g)

@@ -1,25 +1,11 @@
 // The line that ends an answer: 1F, how the run ended, whether a region was handed out, and the steps.
-ghost use Rattle.std.specs.Prelude.{◌≡◌, [], ◌∷◌, if◌then◌else◌};
-ghost use Rattle.wire.specs.Bytes.{be};
-ghost use Rattle.wire.specs.Appending.{lines, put_frames, lines_size, WrittenWhole};
+ghost use Rattle.std.specs.Prelude.{◌≡◌, [], ◌∷◌};
+ghost use Rattle.wire.specs.Appending.{lines_in, lines_size, Appends, WrittenWhole};
 ghost use Rattle.report_lines.specs.EndFrame.{end_frame};
 
-use super::append::append;
 use search_theory::outcome::Outcome;
-use wire::bytes::i32_bytes;
-
-fn found_byte(found: bool) -> u8
-    ensures { result ≡ (if found then 1 else 0) }
-{
-    if found { 1 } else { 0 }
-}
-
-// The four bytes of a number, the highest first.
-fn u32_bytes(x: u32) -> [u8; 4]
-    ensures { result ≡ be 4 x }
-{
-    i32_bytes(x.cast_signed())
-}
+use wire::bytes::u32_bytes;
+use wire::output::Output;
 
 fn end_bytes(outcome: Outcome, found: bool, steps: u32) -> [u8; 7]
     ensures { result ≡ end_frame outcome found steps }
@@ -28,7 +14,7 @@ fn end_bytes(outcome: Outcome, found: bool, steps: u32) -> [u8; 7]
     [
         0x1F,
         outcome.number(),
-        found_byte(found),
+        u8::from(found),
         steps[0],
         steps[1],
         steps[2],
@@ -36,18 +22,11 @@ fn end_bytes(outcome: Outcome, found: bool, steps: u32) -> [u8; 7]
     ]
 }
 
-fn put_frame(out: &mut [u8], at: usize, outcome: Outcome, found: bool, steps: u32) -> usize
-    ensures { lines out.new result ≡ put_frames (lines out.old at) (end_frame outcome found steps ∷ []) }
-{
-    let bytes = end_bytes(outcome, found, steps);
-    append(out, at, &bytes)
-}
-
-// Appends the end line and answers the place after it. It has 15 bytes; where it has no room, nothing is written.
-pub fn put_end(out: &mut [u8], at: usize, outcome: Outcome, found: bool, steps: u32) -> usize
-    ensures after { lines out.new result ≡ put_frames (lines out.old at) (end_frame outcome found steps ∷ []) }
-    ensures whole { WrittenWhole out.old at (end_frame outcome found steps ∷ []) out.new result }
+// Appends the end line. It has 15 bytes; where it has no room, nothing is written.
+pub fn put_end(out: &mut Output, outcome: Outcome, found: bool, steps: u32)
+    ensures appends { Appends out.old out.new (end_frame outcome found steps ∷ []) }
+    ensures whole { WrittenWhole (lines_in out.old) (end_frame outcome found steps ∷ []) (lines_in out.new) }
     ensures size { lines_size (end_frame outcome found steps ∷ []) ≡ 15 }
 {
-    put_frame(out, at, outcome, found, steps)
+    out.put_line(&end_bytes(outcome, found, steps));
 }

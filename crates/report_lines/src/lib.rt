@@ -1,7 +1,6 @@
 // The lines that answer a problem: regions from their limits and points alone, the end, or the one fault.
 #![tactic(auto)]
 
-pub mod append;
 pub mod ending;
 pub mod pairs;
 pub mod point_line;

@@ -1,64 +1,36 @@
 // The line of a region's ranges: a home frame, made from the limits.
-ghost use Rattle.std.specs.Prelude.{◌≡◌, ◌<◌};
+ghost use Rattle.std.specs.Prelude.{◌≡◌, [], ◌∷◌};
+ghost use Rattle.wire.specs.Appending.{Appends};
 ghost use Rattle.wire.specs.HomeFrame.{first_or_0};
-ghost use Rattle.wire.specs.Appending.{lines, put_frame};
-ghost use Rattle.report_lines.specs.RegionFrames.{low_at, high_at, ranges_of, ranges_frame};
+ghost use Rattle.report_lines.specs.RegionFrames.{ranges_of, ranges_frame};
 
-use super::append::settled;
 use interface::home::Home;
 use interface::reading::Reading;
+use std::array;
 use wire::frame::Frame;
+use wire::output::Output;
 
-fn low(reading: &Reading, k: u8) -> i32
-    requires { k < 8 }
-    ensures { result ≡ low_at reading.now k }
+// The value of setting k, 0 past the first n.
+fn first_or_0(n: u8, k: u8, value: i32) -> i32
+    ensures { result ≡ first_or_0 n (λ t. value) k }
 {
-    let half = reading.limit(2 * k + 1, 2 * k + 1).div_euclid(2);
-    -half
-}
-
-fn high(reading: &Reading, k: u8) -> i32
-    requires { k < 8 }
-    ensures { result ≡ high_at reading.now k }
-{
-    reading.limit(2 * k, 2 * k).div_euclid(2)
-}
-
-// 0 past the settings.
-fn low_or_0(reading: &Reading, k: u8) -> i32
-    requires { k < 8 }
-    ensures { result ≡ first_or_0 reading.now.n (low_at reading.now) k }
-{
-    if k < reading.n { low(reading, k) } else { 0 }
-}
-
-fn high_or_0(reading: &Reading, k: u8) -> i32
-    requires { k < 8 }
-    ensures { result ≡ first_or_0 reading.now.n (high_at reading.now) k }
-{
-    if k < reading.n { high(reading, k) } else { 0 }
+    if k < n { value } else { 0 }
 }
 
 fn ranges(reading: &Reading) -> Home
     ensures { result ≡ ranges_of reading.now }
 {
-    let mut lows = [0i32; 8];
-    let mut highs = [0i32; 8];
-    for k in 0..8u8 {
-        lows[k as usize] = low_or_0(reading, k);
-        highs[k as usize] = high_or_0(reading, k);
-    }
+    let n = reading.n;
     Home {
-        n: reading.n,
-        lows,
-        highs,
+        n,
+        lows: array::from_fn(|k| first_or_0(n, k as u8, reading.low(k as u8))),
+        highs: array::from_fn(|k| first_or_0(n, k as u8, reading.high(k as u8))),
     }
 }
 
 // Where n is above 8, the ranges of eight settings are written.
-pub fn put_ranges(out: &mut [u8], at: usize, reading: &Reading) -> usize
-    ensures { lines out.new result ≡ put_frame (lines out.old at) (ranges_frame reading.now) }
+pub fn put_ranges(out: &mut Output, reading: &Reading)
+    ensures { Appends out.old out.new (ranges_frame reading.now ∷ []) }
 {
-    let home = ranges(reading);
-    settled(at, home.write(out, at))
+    ranges(reading).write(out);
 }

@@ -35,9 +35,9 @@ put_whole (f ∷ fs) d i room =
     let end : i + line_size f + lines_size fs ≡ i + (line_size f + lines_size fs) = omega arith in
     ap (λ s. put_frames s fs) one ∙ more ∙ (λ k. lines (on k) (end k))
 
-pub written_whole : (d : List ℕ) (i : ℕ) (fs : List (List ℕ)) (e : List ℕ) (j : ℕ) → lines e j ≡ put_frames (lines d i) fs → WrittenWhole d i fs e j
-written_whole d i fs e j put room =
-    let whole = put ∙ put_whole fs d i room in
+pub written_whole : (s t : Lines) (fs : List (List ℕ)) → t ≡ put_frames s fs → WrittenWhole s fs t
+written_whole s t fs put room =
+    let whole = put ∙ put_whole fs s.output s.place room in
     (ap (λ (s : Lines). s.output) whole, ap (λ (s : Lines). s.place) whole)
 
 -- frames behind frames

@@ -51,6 +51,6 @@ abbrev pub lines_size : List (List ℕ) → ℕ
 lines_size [] = 0
 lines_size (f ∷ fs) = line_size f + lines_size fs
 
--- where all lines have room from place i of d on, e is d with all of them written there one after another, and j is the place after them
-abbrev pub WrittenWhole : List ℕ → ℕ → List (List ℕ) → List ℕ → ℕ → Type 0
-WrittenWhole d i fs e j = i + lines_size fs ≤ length d → (e ≡ written d i (flat_map line_of fs)) × (j ≡ i + lines_size fs)
+-- where all lines have room, all of them are written one after another, and the place is behind them
+abbrev pub WrittenWhole : Lines → List (List ℕ) → Lines → Type 0
+WrittenWhole old fs new = old.place + lines_size fs ≤ length old.output → (new.output ≡ written old.output old.place (flat_map line_of fs)) × (new.place ≡ old.place + lines_size fs)

@@ -15,9 +15,10 @@ use Rattle.interface.specs.Homes.{Passes, low_of, high_of, home_check, settings_
 use Rattle.interface.specs.Numbers.{within}
 use Rattle.wire.specs.Bytes.{be, val}
 use Rattle.wire.specs.Frames.{FrameLaws, Accepted, field}
-use Rattle.wire.specs.HomeFrame.{word_at, word_byte, range_byte, home_byte, first_or_0, eight, write_home, read_home, counted_home, home_frame}
+use Rattle.wire.specs.HomeFrame.{word_at, range_byte, home_byte, first_or_0, eight, write_home, read_home, counted_home, home_frame}
 use Rattle.wire.specs.BigEndian.{small_be, val_be}
 use Rattle.wire.specs.Codecs.{write_one, get_or_part, part_is, byte_small}
+use Rattle.wire.specs.Words.{word_byte}
 use Rattle.wire.specs.Passing.{settings_ok, low_fits, high_fits, joined_same}
 
 -- the places of a home frame: its code, n, and the bytes of lows and highs
@@ -142,7 +143,3 @@ home_laws = record {
   read_written = λ n low high h ok. home_back h ok;
   written_read = λ n low high bs a. frame_back n bs a;
 }
-
--- the bytes of eight settings begin with those of n
-pub home_front : (h : Home) (bytes : List ℕ) (size : ℕ) → bytes ≡ map (home_byte h) (range_with_len 0 66) → size ≡ 2 + 8 * min h.n 8 → take (size - 0) bytes ≡ write_home h
-home_front h bytes size e s = ap (λ k. take k bytes) (omega arith) ∙ ap (take (2 + 8 * min h.n 8)) e ∙ take-map-range_with_len (home_byte h) 0 66 (2 + 8 * min h.n 8) (omega arith)

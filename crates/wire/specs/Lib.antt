@@ -4,6 +4,7 @@ pub mod Frames
 pub mod HomeFrame
 pub mod Kinds
 pub mod Output
+pub mod Words
 pub mod Appending
 pub mod Readers
 pub mod Text

@@ -1,14 +1,15 @@
 // The home record's frame: 01, the number of settings, then the low and the high of each, four bytes each.
-ghost use Rattle.std.specs.Prelude.{◌≡◌, ◌+◌, ◌*◌, ◌<◌, min, map};
-ghost use Rattle.std.specs.List.{range_with_len};
+ghost use Rattle.std.specs.Prelude.{◌≡◌, ◌+◌, ◌*◌, ◌<◌};
 ghost use Rattle.wire.specs.Bytes.{unhex};
-ghost use Rattle.wire.specs.HomeFrame.{word_at, word_byte, range_byte, home_byte, first_or_0, eight, home_frame};
+ghost use Rattle.wire.specs.HomeFrame.{word_at, first_or_0, eight, home_words, home_frame};
 ghost use Rattle.wire.specs.HomeTrips.{home_laws};
 
-use super::bytes::{byte_at, i32_at, i32_bytes};
+use super::bytes::{byte_at, i32_at};
 use super::frame::{Frame, FrameKind};
 use super::output::Output;
+use super::words::words_frame;
 use interface::home::Home;
+use std::array;
 
 // The number from byte `from + 8k` on, 0 past the first n.
 fn word(digits: &[u8], n: u8, from: u16, k: u8) -> i32
@@ -26,59 +27,14 @@ fn words(digits: &[u8], n: u8, from: u16) -> [i32; 8]
     requires { from < 8 }
     ensures { result ≡ eight n (λ t. word_at (unhex digits.now) (from + 8 * t)) }
 {
-    let mut values = [0i32; 8];
-    for k in 0..8u8 {
-        values[k as usize] = word(digits, n, from, k);
-    }
-    values
+    array::from_fn(|k| word(digits, n, from, k as u8))
 }
 
-fn byte_of(z: i32, r: usize) -> u8
-    requires { r < 4 }
-    ensures { result ≡ word_byte z r }
+// Low and high of each setting in turn.
+fn home_words(home: &Home) -> [i32; 16]
+    ensures { result ≡ home_words home.now }
 {
-    i32_bytes(z)[r]
-}
-
-fn range_byte(home: &Home, j: usize) -> u8
-    requires { j < 64 }
-    ensures { result ≡ range_byte home.now j }
-{
-    if j % 8 < 4 {
-        byte_of(home.lows[j / 8], j % 8)
-    } else {
-        byte_of(home.highs[j / 8], j % 8 - 4)
-    }
-}
-
-fn home_byte(home: &Home, j: usize) -> u8
-    requires { j < 66 }
-    ensures { result ≡ home_byte home.now j }
-{
-    if j == 0 {
-        1
-    } else if j == 1 {
-        home.n
-    } else {
-        range_byte(home, j - 2)
-    }
-}
-
-// The bytes of eight settings.
-fn home_bytes(home: &Home) -> [u8; 66]
-    ensures { result ≡ map (home_byte home.now) (range_with_len 0 66) }
-{
-    let mut bytes = [0u8; 66];
-    for j in 0..66usize {
-        bytes[j] = home_byte(home, j);
-    }
-    bytes
-}
-
-fn home_size(n: u8) -> usize
-    ensures { result ≡ 2 + 8 * min n 8 }
-{
-    if n < 8 { 2 + 8 * n as usize } else { 66 }
+    array::from_fn(|k| if k % 2 == 0 { home.lows[k / 2] } else { home.highs[k / 2] })
 }
 
 impl Frame for Home {
@@ -104,7 +60,7 @@ impl Frame for Home {
     }
 
     fn write(&self, out: &mut Output) -> bool {
-        let bytes = home_bytes(self);
-        out.put_line(&bytes[0..home_size(self.n)])
+        let bytes: [u8; 66] = words_frame(1, self.n, &home_words(self));
+        out.put_line(&bytes[..2 + 8 * self.n.min(8) as usize])
     }
 }

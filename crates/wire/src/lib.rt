@@ -9,3 +9,4 @@ pub mod kind;
 pub mod output;
 pub mod reader;
 pub mod text;
+pub mod words;

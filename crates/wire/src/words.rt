@@ -1,0 +1,31 @@
+// Frames of numbers: a code, how many settings there are, then the numbers, four bytes each.
+ghost use Rattle.std.specs.Prelude.{◌≡◌, ◌<◌, map};
+ghost use Rattle.std.specs.List.{range_with_len};
+ghost use Rattle.wire.specs.Words.{word_byte, words_byte, words_frame_byte};
+
+use super::bytes::i32_bytes;
+use std::array;
+
+fn word_byte(word: i32, r: usize) -> u8
+    requires { r < 4 }
+    ensures { result ≡ word_byte word r }
+{
+    i32_bytes(word)[r]
+}
+
+fn frame_byte(code: u8, n: u8, words: &[i32], j: usize) -> u8
+    ensures { result ≡ words_frame_byte code n words.now j }
+{
+    match j {
+        0 => code,
+        1 => n,
+        _ => word_byte(words.get((j - 2) / 4).copied().unwrap_or(0), (j - 2) % 4),
+    }
+}
+
+// The first N bytes; the numbers past the words are 0.
+pub fn words_frame<const N: usize>(code: u8, n: u8, words: &[i32]) -> [u8; N]
+    ensures { result ≡ map (words_frame_byte code n words.now) (range_with_len 0 N) }
+{
+    array::from_fn(|j| frame_byte(code, n, words, j))
+}
