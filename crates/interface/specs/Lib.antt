@@ -3,6 +3,8 @@ pub mod CutBounds
 pub mod Cuts
 pub mod Faults
 pub mod Grounds
+pub mod Guards
+pub mod GuardsLemmas
 pub mod Homes
 pub mod Nodes
 pub mod Numbers

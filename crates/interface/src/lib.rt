@@ -4,6 +4,7 @@
 pub mod cut;
 pub mod extent;
 pub mod fault;
+pub mod guard;
 pub mod home;
 pub mod node;
 pub mod point;
