@@ -11,7 +11,7 @@ use Rattle.interface.specs.Shapes.{built, reading_of}
 use Rattle.halving.specs.Halvings.{halvings_of, width}
 use Rattle.intervals.specs.Model.{box_model}
 use Rattle.octagon_theory.specs.Limits.{Between, chain_sum, entry, void, limit}
-use Rattle.rule_base.specs.Guards.{guarded}
+use Rattle.interface.specs.Guards.{guarded}
 use Rattle.sum_rule.specs.declared.sum.SumRule.{SumRule}
 use Rattle.sum_rule.specs.Sums.{sum_core}
 use Rattle.rules.specs.declared.apart.ApartRule.{ApartRule}

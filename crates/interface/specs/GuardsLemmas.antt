@@ -71,7 +71,3 @@ module _ {R : Type 0} (K : CoreModel R) (L : CoreLaws K) where
     standing_met = λ n r t e x l m. standing_met n r (passes K n r) refl t e x l m;
     proposed_met = λ r g i t e x w m. proposed_met r g (passes K g.n r) refl i t e x w m;
   }
-
-pub cond_same : {A : Type 0} (b : Bool) (x : A) → cond b x x ≡ x
-cond_same true x = refl
-cond_same false x = refl

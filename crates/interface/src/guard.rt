@@ -12,6 +12,18 @@ use super::reading::Reading;
 use super::rule::Rule;
 use super::verdict::Verdict;
 
+// Accepted, or refused with the fault of the first ground whose condition holds.
+pub fn first_fault<F: Copy>(grounds: &[(bool, F)]) -> Result<(), F>
+    ensures { result ≡ first_fault grounds.now }
+{
+    for ground in grounds {
+        if ground.0 {
+            return Err(ground.1);
+        }
+    }
+    Ok(())
+}
+
 // The core of a rule: its grounds for a refusal, and its answers on a record that they accept.
 pub trait Core: Copy {
     // what each call answers

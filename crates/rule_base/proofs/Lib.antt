@@ -1,6 +1,5 @@
 pub mod CutsMet
 pub mod Fits
-pub mod Guards
 pub mod Integers
 pub mod Ranges
 pub mod Values

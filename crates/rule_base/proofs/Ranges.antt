@@ -2,8 +2,7 @@
 use Rattle.std.proofs.Common.{◌≡◌, ℕ, ◌+◌, ◌*◌, ◌<◌, List, get_or, ℤ, pos, ◌≤ℤ◌, arith}
 use borrow.Author.Differences.{ints}
 use Rattle.interface.specs.declared.reading.Reading.{Reading}
-use Rattle.interface.specs.Readings.{limit_at, Within, SumsOf}
-use Rattle.rule_base.specs.Bounds.{low_in, high_in}
+use Rattle.interface.specs.Readings.{limit_at, low_in, high_in, Within, SumsOf}
 use Rattle.rule_base.proofs.Integers.{half_is}
 use Rattle.rule_base.proofs.Values.{value_even, value_odd}
 

@@ -1,5 +1,4 @@
-// What the rules share: bounds as cuts, and the guard around each rule's core.
+// What the rules share: bounds as cuts.
 #![tactic(auto)]
 
 pub mod bounds;
-pub mod guard;

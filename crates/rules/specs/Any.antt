@@ -1,6 +1,6 @@
 -- A rule of any kind: a pair, a sum, an apart or a step rule, answering as that rule does. Assumes nothing.
 use Rattle.interface.specs.Rules.{RuleModel}
-use Rattle.rule_base.specs.Guards.{guarded}
+use Rattle.interface.specs.Guards.{guarded}
 use Rattle.rules.specs.declared.apart.ApartRule.{ApartRule}
 use Rattle.rules.specs.declared.joined.Joined.{Joined}
 use Rattle.rules.specs.declared.pair.PairRule.{PairRule}

@@ -10,7 +10,7 @@ use Rattle.interface.specs.Readings.{limit_at}
 use Rattle.wire.specs.Frames.{Field, field, field_place, Codec}
 use Rattle.rules.specs.declared.apart.ApartRule.{ApartRule}
 use Rattle.rule_base.specs.Bounds.{between, cut_at}
-use Rattle.rule_base.specs.Guards.{Core}
+use Rattle.interface.specs.Guards.{CoreModel}
 
 -- the fields behind the frame's code
 abbrev a_field : Field
@@ -57,7 +57,7 @@ abbrev pub apart_cut : ApartRule → Reading → Option Cut
 apart_cut r g = cond (int_lt (greatest_gap r g) r.d) (cut_at (2 * r.a) (2 * r.b + 1) (neg_ℤ r.d)) (cond (int_lt (neg_ℤ r.d) (least_gap r g)) (cut_at (2 * r.a + 1) (2 * r.b) (neg_ℤ r.d)) None)
 
 -- no standing cut, and no cut but cut 0
-abbrev pub apart_core : Core ApartRule
+abbrev pub apart_core : CoreModel ApartRule
 apart_core = record {
   grounds = apart_grounds;
   meets = apart_meets;

@@ -13,10 +13,10 @@ use Rattle.wire.specs.Codecs.{by_table_laws}
 use Rattle.rules.specs.declared.apart.ApartRule.{ApartRule}
 use Rattle.rules.specs.Aparts.{apart_codec, apart_core, apart_grounds, apart_cut, least_gap, greatest_gap, far, all_near, all_far}
 use Rattle.rule_base.specs.Bounds.{cut_at}
-use Rattle.rule_base.specs.Guards.{guarded}
+use Rattle.interface.specs.Guards.{guarded, Clear, CoreLaws}
 use Rattle.rule_base.proofs.CutsMet.{cut_met}
 use Rattle.rule_base.proofs.Fits.{byte_fits, word_fits}
-use Rattle.rule_base.proofs.Guards.{Clear, clear_ok, CoreLaws, guarded_laws}
+use Rattle.interface.specs.GuardsLemmas.{clear_ok, guarded_laws}
 use Rattle.rule_base.proofs.Values.{value_even, value_odd}
 
 near_not_far : (d low high z : ℤ) → low ≤ℤ z → z ≤ℤ high → all_near d low high ≡ true → far d z ≡ false
@@ -75,7 +75,7 @@ module _ (r : ApartRule) (g : Reading) (ok : Clear (apart_grounds g.n r)) (x : L
   proposed_met w m true t s = side_met w m _ _ refl refl t s
   proposed_met w m false t s = let z : ◌≡◌ {A = ℕ} 0 1 = cc in absurd (omega arith)
 
-apart_core_laws : CoreLaws apart_core
+pub apart_core_laws : CoreLaws apart_core
 apart_core_laws = record {
   none_meets = λ r g ok e x w. near_not_far r.d _ _ _ (gap_from r g ok x w) (gap_to r g ok x w) e;
   all_meet = λ r g ok e x w. far_far r.d _ _ _ (gap_from r g ok x w) (gap_to r g ok x w) e;

@@ -12,7 +12,7 @@ use Rattle.interface.specs.Readings.{limit_at}
 use Rattle.wire.specs.Frames.{Field, field, field_place, Codec}
 use Rattle.rules.specs.declared.pair.PairRule.{PairRule}
 use Rattle.rule_base.specs.Bounds.{cut_at}
-use Rattle.rule_base.specs.Guards.{Core}
+use Rattle.interface.specs.Guards.{CoreModel}
 
 -- the fields behind the frame's code
 abbrev p_field : Field
@@ -48,7 +48,7 @@ abbrev pub pair_cut : PairRule → Option Cut
 pair_cut r = cut_at r.p r.q r.c
 
 -- the standing cut and cut 0 are the rule itself
-abbrev pub pair_core : Core PairRule
+abbrev pub pair_core : CoreModel PairRule
 pair_core = record {
   grounds = pair_grounds;
   meets = pair_meets;

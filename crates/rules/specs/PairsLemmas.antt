@@ -12,11 +12,11 @@ use Rattle.interface.specs.Rules.{RuleLaws}
 use Rattle.wire.specs.Frames.{FrameLaws, by_table, FitAll}
 use Rattle.wire.specs.Codecs.{by_table_laws}
 use Rattle.rules.specs.declared.pair.PairRule.{PairRule}
-use Rattle.rule_base.specs.Guards.{guarded}
+use Rattle.interface.specs.Guards.{guarded, Clear, CoreLaws}
 use Rattle.rules.specs.Pairs.{pair_codec, pair_core, pair_grounds, pair_none, pair_all, pair_meets, pair_cut}
 use Rattle.rule_base.proofs.CutsMet.{cut_met}
 use Rattle.rule_base.proofs.Fits.{byte_fits, word_fits}
-use Rattle.rule_base.proofs.Guards.{Clear, clear_ok, CoreLaws, guarded_laws}
+use Rattle.interface.specs.GuardsLemmas.{clear_ok, guarded_laws}
 use Rattle.rule_base.proofs.Values.{value_opp, opp_below}
 
 none_meets : (r : PairRule) (g : Reading) → Clear (pair_grounds g.n r) → pair_none r g ≡ true → (x : List ℤ) → Within g x → pair_meets r x ≡ false
@@ -46,7 +46,7 @@ proposed_met : (r : PairRule) (g : Reading) (first : Bool) (t : Cut) → mathlib
 proposed_met r g true t e x m = pair_met r t e x m
 proposed_met r g false t e x m = let z : ◌≡◌ {A = ℕ} 0 1 = cc in absurd (omega arith)
 
-pair_core_laws : CoreLaws pair_core
+pub pair_core_laws : CoreLaws pair_core
 pair_core_laws = record {
   none_meets = none_meets;
   all_meet = all_meet;

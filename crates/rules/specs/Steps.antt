@@ -6,10 +6,11 @@ use Rattle.interface.specs.declared.fault.RecordFault.{RecordFault}
 use Rattle.interface.specs.declared.fault.RecordFault.TheVariants.{Node, Number}
 use Rattle.interface.specs.declared.reading.Reading.{Reading}
 use Rattle.interface.specs.Grounds.{first_fault}
+use Rattle.interface.specs.Readings.{low_in, high_in}
 use Rattle.wire.specs.Frames.{Field, field, field_place, Codec}
 use Rattle.rules.specs.declared.step.StepRule.{StepRule}
-use Rattle.rule_base.specs.Bounds.{between, equal, bounded, low_in, high_in}
-use Rattle.rule_base.specs.Guards.{Core}
+use Rattle.rule_base.specs.Bounds.{between, equal, bounded}
+use Rattle.interface.specs.Guards.{CoreModel}
 
 -- what z leaves when it is divided by m, rounded down; shut, so that proofs take it as one name
 unfoldable pub rest : ℤ → ℤ → ℤ
@@ -75,7 +76,7 @@ abbrev pub step_cut : StepRule → Reading → ℕ → Option Cut
 step_cut r g i = cond (i == 0) (bounded (2 * r.a) (last_up_to r (high_in g r.a))) (cond (i == 1) (bounded (2 * r.a + 1) (neg_ℤ (first_from r (low_in g r.a)))) None)
 
 -- no standing cut
-abbrev pub step_core : Core StepRule
+abbrev pub step_core : CoreModel StepRule
 step_core = record {
   grounds = step_grounds;
   meets = step_meets;

@@ -7,17 +7,17 @@ use Rattle.std.proofs.lemmas.Bool.{leb-false, lt-ltb, cond-true, both_ways, and_
 use Rattle.interface.specs.declared.cut.Cut.{Cut}
 use Rattle.interface.specs.declared.reading.Reading.{Reading}
 use Rattle.interface.specs.Cuts.{Meets}
-use Rattle.interface.specs.Readings.{Within, SumsOf}
+use Rattle.interface.specs.Readings.{low_in, high_in, Within, SumsOf}
 use Rattle.interface.specs.Rules.{RuleLaws}
 use Rattle.wire.specs.Frames.{FrameLaws, by_table, FitAll}
 use Rattle.wire.specs.Codecs.{by_table_laws}
 use Rattle.rules.specs.declared.step.StepRule.{StepRule}
-use Rattle.rule_base.specs.Bounds.{equal, bounded, low_in, high_in}
-use Rattle.rule_base.specs.Guards.{guarded}
+use Rattle.rule_base.specs.Bounds.{equal, bounded}
+use Rattle.interface.specs.Guards.{guarded, Clear, CoreLaws}
 use Rattle.rules.specs.Steps.{rest, step_codec, step_core, step_grounds, step_meets, leaves, last_up_to, first_from, Divides, LastUpTo, FirstFrom, none_leaves, one_leaves}
 use Rattle.rule_base.proofs.CutsMet.{bound_met}
 use Rattle.rule_base.proofs.Fits.{byte_fits, word_fits}
-use Rattle.rule_base.proofs.Guards.{Clear, clear_ok, CoreLaws, guarded_laws}
+use Rattle.interface.specs.GuardsLemmas.{clear_ok, guarded_laws}
 use Rattle.rule_base.proofs.Integers.{times_neg, quotient_rest, multiple_most, rest_one}
 use Rattle.rule_base.proofs.Ranges.{range_from, range_to, range_low, range_high}
 use Rattle.rule_base.proofs.Values.{value_even, value_odd}
@@ -143,7 +143,7 @@ module _ (s : StepRule) (g : Reading) (ok : Clear (step_grounds g.n s)) (x : Lis
       bound_met (2 * s.a + 1) (neg_ℤ (first_from s (low_in g s.a))) t e x (omega (arith, ints, from, value_odd x s.a))
   cut_met w m false false t e = let z : ◌≡◌ {A = ℕ} 0 1 = cc in absurd (omega arith)
 
-step_core_laws : CoreLaws step_core
+pub step_core_laws : CoreLaws step_core
 step_core_laws = record {
   none_meets = λ s g ok e x w. none_leave s (divides s _ ok) _ _ _ (range_from g x s.a (on s _ ok) w) (range_to g x s.a (on s _ ok) w) e;
   all_meet = λ s g ok e x w. one_leave s _ _ _ (range_from g x s.a (on s _ ok) w) (range_to g x s.a (on s _ ok) w) e;

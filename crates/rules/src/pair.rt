@@ -1,20 +1,16 @@
 // The pair rule: the values at two nodes add up to at most a number.
 ghost use Rattle.std.specs.Prelude.{◌≡◌};
-ghost use Rattle.interface.specs.Points.{values_of};
-ghost use Rattle.rule_base.specs.Guards.{guarded};
 ghost use Rattle.wire.specs.Frames.{by_table};
-ghost use Rattle.rules.specs.Pairs.{pair_codec, pair_core, pair_meets, pair_none, pair_all, pair_cut};
-ghost use Rattle.rules.specs.PairsLemmas.{pair_laws, pair_trips};
+ghost use Rattle.rules.specs.Pairs.{pair_codec, pair_core};
+ghost use Rattle.rules.specs.PairsLemmas.{pair_core_laws, pair_trips};
 
 use interface::cut::Cut;
 use interface::fault::RecordFault;
+use interface::guard::{Core, first_fault};
 use interface::node::opposite;
 use interface::point::Point;
 use interface::reading::Reading;
-use interface::rule::Rule;
-use interface::verdict::Verdict;
-use rule_base::bounds::cut_at;
-use rule_base::guard::{in_range, judged, node_off};
+use rule_base::bounds::{cut_at, negative};
 use wire::bytes::{byte_at, i32_at, i32_bytes};
 use wire::frame::{Frame, FrameKind};
 use wire::output::put_line;
@@ -27,77 +23,43 @@ pub struct PairRule {
     pub c: i32,
 }
 
-impl PairRule {
-    fn met_by(&self, point: &Point) -> bool
-        ensures { result ≡ pair_meets self.now (values_of point.now) }
-    {
-        point.at(self.p) + point.at(self.q) <= self.c as i64
+impl Core for PairRule {
+    ghost core = { pair_core };
+
+    ghost laws = { pair_core_laws };
+
+    fn check_grounds(&self, n: u8) -> Result<(), RecordFault> {
+        first_fault(&[
+            (self.p / 2 >= n, RecordFault::Node(2)),
+            (self.q / 2 >= n, RecordFault::Node(3)),
+            (self.q == opposite(self.p), RecordFault::Clash(3)),
+            (
+                !(-2_000_000..=2_000_000).contains(&self.c),
+                RecordFault::Number(4),
+            ),
+        ])
     }
 
-    fn none_within(&self, reading: &Reading) -> bool
-        ensures { result ≡ pair_none self.now reading.now }
-    {
-        let least = -(reading.limit(opposite(self.p), opposite(self.q)) as i64);
-        (self.c as i64) < least
+    fn met_by(&self, point: &Point) -> bool {
+        point.at(self.p) + point.at(self.q) <= i64::from(self.c)
     }
 
-    fn all_within(&self, reading: &Reading) -> bool
-        ensures { result ≡ pair_all self.now reading.now }
-    {
-        reading.limit(self.p, self.q) <= self.c
+    fn none_within(&self, reading: &Reading) -> bool {
+        let p = u16::from(opposite(self.p));
+        let q = u16::from(opposite(self.q));
+        i64::from(self.c) < negative(reading.limit(p, q))
     }
 
-    fn cut(&self) -> Option<Cut>
-        ensures { result ≡ pair_cut self.now }
-    {
-        cut_at(self.p as u16, self.q as u16, self.c as i64)
-    }
-}
-
-impl Rule for PairRule {
-    ghost model = { guarded pair_core };
-
-    ghost laws = { pair_laws };
-
-    fn check(&self, n: u8) -> Result<(), RecordFault> {
-        if node_off(self.p, n) {
-            return Err(RecordFault::Node(2));
-        }
-        if node_off(self.q, n) {
-            return Err(RecordFault::Node(3));
-        }
-        if self.q == opposite(self.p) {
-            return Err(RecordFault::Clash(3));
-        }
-        if !in_range(self.c, -2_000_000, 2_000_000) {
-            return Err(RecordFault::Number(4));
-        }
-        Ok(())
+    fn all_within(&self, reading: &Reading) -> bool {
+        reading.limit(u16::from(self.p), u16::from(self.q)) <= self.c
     }
 
-    fn meets(&self, n: u8, point: &Point) -> bool {
-        self.check(n).is_ok() && self.met_by(point)
+    fn standing_cut(&self) -> Option<Cut> {
+        cut_at(u16::from(self.p), u16::from(self.q), i64::from(self.c))
     }
 
-    fn judge(&self, reading: &Reading) -> Verdict {
-        if self.check(reading.n).is_err() {
-            return Verdict::Nothing;
-        }
-        judged(self.none_within(reading), self.all_within(reading))
-    }
-
-    fn standing(&self, n: u8) -> Option<Cut> {
-        if self.check(n).is_err() {
-            return None;
-        }
-        self.cut()
-    }
-
-    fn proposed(&self, reading: &Reading, i: u8) -> Option<Cut> {
-        if self.check(reading.n).is_err() || i != 0 {
-            return None;
-        }
-        self.cut()
+    fn proposed_cut(&self, reading: &Reading, i: u8) -> Option<Cut> {
+        if i == 0 { self.standing_cut() } else { None }
     }
 }
 

@@ -1,19 +1,15 @@
 // The step rule: a setting moves in steps of m.
-ghost use Rattle.std.specs.Prelude.{◌≡◌, ◌^◌, ◌≤◌, ◌-ℤ◌, neg_ℤ, unsigned_abs};
-ghost use Rattle.interface.specs.Points.{values_of};
-ghost use Rattle.rule_base.specs.Guards.{guarded};
+ghost use Rattle.std.specs.Prelude.{◌≡◌, ◌^◌, ◌≤◌, unsigned_abs};
 ghost use Rattle.wire.specs.Frames.{by_table};
-ghost use Rattle.rules.specs.Steps.{step_codec, step_core, step_meets, step_cut, rest, leaves, last_up_to, first_from, Divides, LastUpTo, FirstFrom, none_leaves, one_leaves};
-ghost use Rattle.rules.specs.StepsLemmas.{step_laws, step_trips};
+ghost use Rattle.rules.specs.Steps.{step_codec, step_core, rest, leaves, last_up_to, first_from, Divides, LastUpTo, FirstFrom};
+ghost use Rattle.rules.specs.StepsLemmas.{step_core_laws, step_trips};
 
 use interface::cut::Cut;
 use interface::fault::RecordFault;
+use interface::guard::{Core, first_fault};
 use interface::point::Point;
 use interface::reading::Reading;
-use interface::rule::Rule;
-use interface::verdict::Verdict;
-use rule_base::bounds::{bounded_by, gap, high, low};
-use rule_base::guard::{in_range, is_equal, judged};
+use rule_base::bounds::{bounded_by, gap};
 use wire::bytes::{byte_at, i32_at, i32_bytes};
 use wire::frame::{Frame, FrameKind};
 use wire::output::put_line;
@@ -34,49 +30,14 @@ fn remainder(m: i32, z: i64) -> i64
     if m <= 0 {
         return 0;
     }
-    z.rem_euclid(m as i64)
+    z.rem_euclid(i64::from(m))
 }
 
 impl StepRule {
     fn is_left_by(&self, z: i32) -> bool
         ensures { result ≡ leaves self.now z }
     {
-        is_equal(remainder(self.m, z as i64), self.r as i64)
-    }
-
-    fn met_by(&self, point: &Point) -> bool
-        ensures { result ≡ step_meets self.now (values_of point.now) }
-    {
-        self.is_left_by(point.setting(self.a))
-    }
-
-    // How far the greatest value that leaves r lies below z.
-    fn lag(&self, z: i32) -> i64
-        ensures value { result ≡ rest self.now.m (z -ℤ self.now.r) }
-        ensures bound { unsigned_abs result ≤ 2 ^ 31 }
-    {
-        remainder(self.m, gap(z, self.r))
-    }
-
-    // How far the least value that leaves r lies above z.
-    fn lead(&self, z: i32) -> i64
-        ensures value { result ≡ rest self.now.m (self.now.r -ℤ z) }
-        ensures bound { unsigned_abs result ≤ 2 ^ 31 }
-    {
-        remainder(self.m, gap(self.r, z))
-    }
-
-    fn last_up_to(&self, z: i32) -> i64
-        ensures { result ≡ last_up_to self.now z }
-    {
-        z as i64 - self.lag(z)
-    }
-
-    fn first_from(&self, z: i32) -> i64
-        ensures value { result ≡ first_from self.now z }
-        ensures bound { unsigned_abs result ≤ 2 ^ 33 }
-    {
-        z as i64 + self.lead(z)
+        remainder(self.m, i64::from(z)) == i64::from(self.r)
     }
 
     // The greatest value up to z that leaves r.
@@ -84,7 +45,7 @@ impl StepRule {
         ensures value { result ≡ last_up_to self.now z }
         ensures last { Divides self.now → LastUpTo self.now z result }
     {
-        self.last_up_to(z)
+        i64::from(z) - remainder(self.m, gap(z, self.r))
     }
 
     // The least value from z that leaves r.
@@ -93,82 +54,47 @@ impl StepRule {
         ensures bound { unsigned_abs result ≤ 2 ^ 33 }
         ensures first { Divides self.now → FirstFrom self.now z result }
     {
-        self.first_from(z)
-    }
-
-    // The negative is at most this.
-    fn negative_from(&self, z: i32) -> i64
-        ensures { result ≡ neg_ℤ (first_from self.now z) }
-    {
-        -self.least_from(z)
-    }
-
-    fn none_leaves(&self, low: i32, high: i32) -> bool
-        ensures { result ≡ none_leaves self.now low high }
-    {
-        self.greatest_up_to(high) < low as i64
-    }
-
-    fn one_leaves(&self, low: i32, high: i32) -> bool
-        ensures { result ≡ one_leaves self.now low high }
-    {
-        is_equal(low as i64, high as i64) && self.is_left_by(low)
-    }
-
-    fn cut(&self, reading: &Reading, i: u8) -> Option<Cut>
-        ensures { result ≡ step_cut self.now reading.now i }
-    {
-        let node = 2 * self.a as u16;
-        if i == 0 {
-            return bounded_by(node, self.greatest_up_to(high(reading, self.a)));
-        }
-        if i == 1 {
-            return bounded_by(node + 1, self.negative_from(low(reading, self.a)));
-        }
-        None
+        i64::from(z) + remainder(self.m, gap(self.r, z))
     }
 }
 
-impl Rule for StepRule {
-    ghost model = { guarded step_core };
+impl Core for StepRule {
+    ghost core = { step_core };
 
-    ghost laws = { step_laws };
+    ghost laws = { step_core_laws };
 
-    fn check(&self, n: u8) -> Result<(), RecordFault> {
-        if self.a >= n {
-            return Err(RecordFault::Node(2));
-        }
-        if !in_range(self.m, 2, 1_000_000) {
-            return Err(RecordFault::Number(3));
-        }
-        if self.r < 0 || self.r >= self.m {
-            return Err(RecordFault::Number(7));
-        }
-        Ok(())
+    fn check_grounds(&self, n: u8) -> Result<(), RecordFault> {
+        first_fault(&[
+            (self.a >= n, RecordFault::Node(2)),
+            (!(2..=1_000_000).contains(&self.m), RecordFault::Number(3)),
+            (!(0..self.m).contains(&self.r), RecordFault::Number(7)),
+        ])
     }
 
-    fn meets(&self, n: u8, point: &Point) -> bool {
-        self.check(n).is_ok() && self.met_by(point)
+    fn met_by(&self, point: &Point) -> bool {
+        self.is_left_by(point.setting(self.a))
     }
 
-    fn judge(&self, reading: &Reading) -> Verdict {
-        if self.check(reading.n).is_err() {
-            return Verdict::Nothing;
-        }
-        let low = low(reading, self.a);
-        let high = high(reading, self.a);
-        judged(self.none_leaves(low, high), self.one_leaves(low, high))
+    fn none_within(&self, reading: &Reading) -> bool {
+        self.greatest_up_to(reading.high(self.a)) < i64::from(reading.low(self.a))
     }
 
-    fn standing(&self, n: u8) -> Option<Cut> {
+    fn all_within(&self, reading: &Reading) -> bool {
+        let low = reading.low(self.a);
+        low == reading.high(self.a) && self.is_left_by(low)
+    }
+
+    fn standing_cut(&self) -> Option<Cut> {
         None
     }
 
-    fn proposed(&self, reading: &Reading, i: u8) -> Option<Cut> {
-        if self.check(reading.n).is_err() {
-            return None;
+    fn proposed_cut(&self, reading: &Reading, i: u8) -> Option<Cut> {
+        let node = 2 * u16::from(self.a);
+        match i {
+            0 => bounded_by(node, self.greatest_up_to(reading.high(self.a))),
+            1 => bounded_by(node + 1, -self.least_from(reading.low(self.a))),
+            _ => None,
         }
-        self.cut(reading, i)
     }
 }
 

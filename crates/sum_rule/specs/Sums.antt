@@ -8,11 +8,12 @@ use Rattle.interface.specs.declared.fault.RecordFault.TheVariants.{Node, Clash, 
 use Rattle.interface.specs.declared.reading.Reading.{Reading}
 use Rattle.interface.specs.Grounds.{first_fault}
 use Rattle.interface.specs.Numbers.{within}
+use Rattle.interface.specs.Readings.{low_in, high_in}
 use Rattle.wire.specs.Frames.{Field, field, field_place, Codec}
 use Rattle.sum_rule.specs.declared.sum.SumRule.{SumRule}
 use Rattle.sum_rule.specs.declared.sum.Term.{Term}
-use Rattle.rule_base.specs.Bounds.{bounded, low_in, high_in, equal}
-use Rattle.rule_base.specs.Guards.{Core}
+use Rattle.rule_base.specs.Bounds.{bounded, equal}
+use Rattle.interface.specs.Guards.{CoreModel}
 
 -- the product; shut, so that proofs take it as one name
 unfoldable pub times : ℤ → ℤ → ℤ
@@ -92,7 +93,7 @@ abbrev pub sum_cut : SumRule → Reading → ℕ → Option Cut
 sum_cut r g i = cond (i == 0) (term_cut r g r.first r.second r.third) (cond (i == 1) (term_cut r g r.second r.first r.third) (cond (i == 2) (term_cut r g r.third r.first r.second) None))
 
 -- no standing cut
-abbrev pub sum_core : Core SumRule
+abbrev pub sum_core : CoreModel SumRule
 sum_core = record {
   grounds = sum_grounds;
   meets = sum_meets;

@@ -16,11 +16,11 @@ use Rattle.wire.specs.Codecs.{by_table_laws}
 use Rattle.sum_rule.specs.declared.sum.SumRule.{SumRule}
 use Rattle.sum_rule.specs.declared.sum.Term.{Term}
 use Rattle.rule_base.specs.Bounds.{equal, bounded}
-use Rattle.rule_base.specs.Guards.{guarded}
+use Rattle.interface.specs.Guards.{guarded, Clear, CoreLaws}
 use Rattle.sum_rule.specs.Sums.{times, wrong_number, sum_codec, sum_core, sum_grounds, sum_meets, sum_none, sum_all, term_cut, left_for, is_empty, term_at, least_of, greatest_of}
 use Rattle.rule_base.proofs.CutsMet.{bound_met}
 use Rattle.rule_base.proofs.Fits.{byte_fits, small_fits, word_fits}
-use Rattle.rule_base.proofs.Guards.{Clear, clear_ok, CoreLaws, guarded_laws}
+use Rattle.interface.specs.GuardsLemmas.{clear_ok, guarded_laws}
 use Rattle.rule_base.proofs.Integers.{times_neg, floor_most, least_at, greatest_at}
 use Rattle.rule_base.proofs.Ranges.{range_from, range_to, range_low, range_high}
 use Rattle.rule_base.proofs.Values.{value_even, value_odd}
@@ -109,7 +109,7 @@ module _ (r : SumRule) (g : Reading) (ok : Clear (sum_grounds g.n r)) (x : List 
   cut_met w m false false true t e = term_met r.third r.first r.second first_on second_on w (omega (arith, ints)) t e
   cut_met w m false false false t e = let z : ◌≡◌ {A = ℕ} 0 1 = cc in absurd (omega arith)
 
-sum_core_laws : CoreLaws sum_core
+pub sum_core_laws : CoreLaws sum_core
 sum_core_laws = record {
   none_meets = λ r g ok e x w. none_meets r g ok x e w;
   all_meet = λ r g ok e x w. all_meet r g ok x e w;

@@ -1,20 +1,16 @@
 // The sum rule: multiples of three settings add up to at most a number.
-ghost use Rattle.std.specs.Prelude.{◌≡◌, ◌+◌, ◌*◌, ◌^◌, ◌<◌, ◌≤◌, false, pos, if◌then◌else◌, int_lt, unsigned_abs};
+ghost use Rattle.std.specs.Prelude.{◌≡◌, ◌+◌, ◌*◌, ◌^◌, ◌≤◌, false, pos, if◌then◌else◌, int_lt, unsigned_abs};
 ghost use Rattle.std.specs.Int.{int_div_euclid};
 ghost use Rattle.interface.specs.Points.{values_of};
-ghost use Rattle.rule_base.specs.Bounds.{low_in, high_in};
-ghost use Rattle.rule_base.specs.Guards.{guarded};
-ghost use Rattle.sum_rule.specs.Sums.{sum_core, sum_meets, sum_none, sum_all, times, is_empty, clash, wrong_number, term_at, least_of, greatest_of, three, left_for, term_cut, sum_cut};
-ghost use Rattle.sum_rule.specs.SumsLemmas.{sum_laws};
+ghost use Rattle.sum_rule.specs.Sums.{sum_core, times, is_empty, clash, wrong_number, term_at, least_of, greatest_of, three, left_for, term_cut};
+ghost use Rattle.sum_rule.specs.SumsLemmas.{sum_core_laws};
 
 use interface::cut::Cut;
 use interface::fault::RecordFault;
+use interface::guard::{Core, first_fault};
 use interface::point::Point;
 use interface::reading::Reading;
-use interface::rule::Rule;
-use interface::verdict::Verdict;
-use rule_base::bounds::{bounded_by, high, low};
-use rule_base::guard::{in_range, is_equal, judged};
+use rule_base::bounds::bounded_by;
 
 // A coefficient times a setting; a coefficient 0 stands for no term.
 #[derive(Clone, Copy)]
@@ -36,14 +32,14 @@ fn product(k: i8, z: i32) -> i64
     ensures value { result ≡ times k z }
     ensures bound { unsigned_abs result ≤ 2 ^ 38 }
 {
-    k as i64 * z as i64
+    i64::from(k) * i64::from(z)
 }
 
 impl Term {
     fn is_empty(&self) -> bool
         ensures { result ≡ is_empty self.now }
     {
-        is_equal(self.coefficient as i64, 0)
+        self.coefficient == 0
     }
 
     fn clashes(&self, other: &Term) -> bool
@@ -55,7 +51,7 @@ impl Term {
     fn is_wrong(&self) -> bool
         ensures { result ≡ wrong_number self.now }
     {
-        !in_range(self.coefficient as i32, -100, 100) || self.is_empty() && self.setting != 0
+        !(-100..=100).contains(&self.coefficient) || self.is_empty() && self.setting != 0
     }
 
     fn at(&self, point: &Point) -> i64
@@ -65,66 +61,45 @@ impl Term {
         product(self.coefficient, point.setting(self.setting))
     }
 
-    // The end of the range where the term is least.
-    fn least_end(&self, reading: &Reading) -> i32
-        ensures { result ≡ (if int_lt self.now.coefficient (pos 0) then high_in reading.now self.now.setting else low_in reading.now self.now.setting) }
+    // The first of two where the coefficient is at least 0, the second where it is below.
+    fn by_sign<T: Copy>(&self, plus: T, minus: T) -> T
+        ensures { result ≡ (if int_lt self.now.coefficient (pos 0) then minus else plus) }
     {
-        if self.coefficient < 0 {
-            high(reading, self.setting)
-        } else {
-            low(reading, self.setting)
-        }
-    }
-
-    // The end of the range where the term is greatest.
-    fn greatest_end(&self, reading: &Reading) -> i32
-        ensures { result ≡ (if int_lt self.now.coefficient (pos 0) then low_in reading.now self.now.setting else high_in reading.now self.now.setting) }
-    {
-        if self.coefficient < 0 {
-            low(reading, self.setting)
-        } else {
-            high(reading, self.setting)
-        }
+        if self.coefficient < 0 { minus } else { plus }
     }
 
     fn least(&self, reading: &Reading) -> i64
         ensures value { result ≡ least_of reading.now self.now }
         ensures bound { unsigned_abs result ≤ 2 ^ 38 }
     {
-        product(self.coefficient, self.least_end(reading))
+        let low = reading.low(self.setting);
+        let high = reading.high(self.setting);
+        product(self.coefficient, self.by_sign(low, high))
     }
 
     fn greatest(&self, reading: &Reading) -> i64
         ensures value { result ≡ greatest_of reading.now self.now }
         ensures bound { unsigned_abs result ≤ 2 ^ 38 }
     {
-        product(self.coefficient, self.greatest_end(reading))
+        let low = reading.low(self.setting);
+        let high = reading.high(self.setting);
+        product(self.coefficient, self.by_sign(high, low))
     }
-}
 
-// z divided by a size, rounded down.
-fn quotient(z: i64, size: u8) -> i64
-    requires { 0 < size }
-    ensures { result ≡ int_div_euclid z (pos size) }
-{
-    z.div_euclid(size as i64)
-}
-
-impl Term {
     // The node whose value the term bounds: the setting's, or its negative's where the coefficient is below 0.
     fn node(&self) -> u16
         ensures { result ≡ (if int_lt self.now.coefficient (pos 0) then 2 * self.now.setting + 1 else 2 * self.now.setting) }
     {
-        let even = 2 * self.setting as u16;
-        if self.coefficient < 0 { even + 1 } else { even }
+        let even = 2 * u16::from(self.setting);
+        self.by_sign(even, even + 1)
     }
 
-    // How much of the setting, or of its negative, the amount leaves room for.
+    // How much of the setting, or of its negative, the amount leaves room for: rounded down.
     fn share(&self, amount: i64) -> i64
         requires { is_empty self.now ≡ false }
         ensures { result ≡ int_div_euclid amount (pos (unsigned_abs self.now.coefficient)) }
     {
-        quotient(amount, self.coefficient.unsigned_abs())
+        amount.div_euclid(i64::from(self.coefficient.unsigned_abs()))
     }
 }
 
@@ -147,29 +122,11 @@ impl SumRule {
         self.first.greatest(reading) + self.second.greatest(reading) + self.third.greatest(reading)
     }
 
-    fn met_by(&self, point: &Point) -> bool
-        ensures { result ≡ sum_meets self.now (values_of point.now) }
-    {
-        self.total_at(point) <= self.t as i64
-    }
-
-    fn none_within(&self, reading: &Reading) -> bool
-        ensures { result ≡ sum_none self.now reading.now }
-    {
-        (self.t as i64) < self.least(reading)
-    }
-
-    fn all_within(&self, reading: &Reading) -> bool
-        ensures { result ≡ sum_all self.now reading.now }
-    {
-        self.greatest(reading) <= self.t as i64
-    }
-
     // What t leaves for one term when the other two are least.
     fn left_for(&self, reading: &Reading, v: &Term, w: &Term) -> i64
         ensures { result ≡ left_for self.now reading.now v.now w.now }
     {
-        self.t as i64 - (v.least(reading) + w.least(reading))
+        i64::from(self.t) - (v.least(reading) + w.least(reading))
     }
 
     // The cut that bounds the setting of the term u.
@@ -181,77 +138,57 @@ impl SumRule {
         }
         bounded_by(u.node(), u.share(self.left_for(reading, v, w)))
     }
+}
 
-    fn cut(&self, reading: &Reading, i: u8) -> Option<Cut>
-        ensures { result ≡ sum_cut self.now reading.now i }
-    {
+impl Core for SumRule {
+    ghost core = { sum_core };
+
+    ghost laws = { sum_core_laws };
+
+    fn check_grounds(&self, n: u8) -> Result<(), RecordFault> {
+        first_fault(&[
+            (self.first.setting >= n, RecordFault::Node(2)),
+            (self.second.setting >= n, RecordFault::Node(4)),
+            (self.third.setting >= n, RecordFault::Node(6)),
+            (self.first.clashes(&self.second), RecordFault::Clash(4)),
+            (self.first.clashes(&self.third), RecordFault::Clash(6)),
+            (self.second.clashes(&self.third), RecordFault::Clash(6)),
+            (self.first.is_wrong(), RecordFault::Number(3)),
+            (self.second.is_wrong(), RecordFault::Number(5)),
+            (self.third.is_wrong(), RecordFault::Number(7)),
+            (
+                !(-300_000_000..=300_000_000).contains(&self.t),
+                RecordFault::Number(8),
+            ),
+            (
+                self.first.is_empty() && self.second.is_empty() && self.third.is_empty(),
+                RecordFault::Empty(1),
+            ),
+        ])
+    }
+
+    fn met_by(&self, point: &Point) -> bool {
+        self.total_at(point) <= i64::from(self.t)
+    }
+
+    fn none_within(&self, reading: &Reading) -> bool {
+        i64::from(self.t) < self.least(reading)
+    }
+
+    fn all_within(&self, reading: &Reading) -> bool {
+        self.greatest(reading) <= i64::from(self.t)
+    }
+
+    fn standing_cut(&self) -> Option<Cut> {
+        None
+    }
+
+    fn proposed_cut(&self, reading: &Reading, i: u8) -> Option<Cut> {
         match i {
             0 => self.term_cut(reading, &self.first, &self.second, &self.third),
             1 => self.term_cut(reading, &self.second, &self.first, &self.third),
             2 => self.term_cut(reading, &self.third, &self.first, &self.second),
             _ => None,
         }
-    }
-}
-
-impl Rule for SumRule {
-    ghost model = { guarded sum_core };
-
-    ghost laws = { sum_laws };
-
-    fn check(&self, n: u8) -> Result<(), RecordFault> {
-        if self.first.setting >= n {
-            return Err(RecordFault::Node(2));
-        }
-        if self.second.setting >= n {
-            return Err(RecordFault::Node(4));
-        }
-        if self.third.setting >= n {
-            return Err(RecordFault::Node(6));
-        }
-        if self.first.clashes(&self.second) {
-            return Err(RecordFault::Clash(4));
-        }
-        if self.first.clashes(&self.third) || self.second.clashes(&self.third) {
-            return Err(RecordFault::Clash(6));
-        }
-        if self.first.is_wrong() {
-            return Err(RecordFault::Number(3));
-        }
-        if self.second.is_wrong() {
-            return Err(RecordFault::Number(5));
-        }
-        if self.third.is_wrong() {
-            return Err(RecordFault::Number(7));
-        }
-        if !in_range(self.t, -300_000_000, 300_000_000) {
-            return Err(RecordFault::Number(8));
-        }
-        if self.first.is_empty() && self.second.is_empty() && self.third.is_empty() {
-            return Err(RecordFault::Empty(1));
-        }
-        Ok(())
-    }
-
-    fn meets(&self, n: u8, point: &Point) -> bool {
-        self.check(n).is_ok() && self.met_by(point)
-    }
-
-    fn judge(&self, reading: &Reading) -> Verdict {
-        if self.check(reading.n).is_err() {
-            return Verdict::Nothing;
-        }
-        judged(self.none_within(reading), self.all_within(reading))
-    }
-
-    fn standing(&self, n: u8) -> Option<Cut> {
-        None
-    }
-
-    fn proposed(&self, reading: &Reading, i: u8) -> Option<Cut> {
-        if self.check(reading.n).is_err() {
-            return None;
-        }
-        self.cut(reading, i)
     }
 }

@@ -1,4 +1,4 @@
-use Rattle.std.proofs.Common.{◌≡◌, ◌^◌, ◌≤◌, ℤ, ◌*ℤ◌, nat_abs, ap, ◌∙◌, ap₂, arith, w8, w32, w64, SFits, to_z, of_z}
+use Rattle.std.proofs.Common.{◌≡◌, ◌^◌, ◌≤◌, ℤ, ◌*ℤ◌, nat_abs, ap, ◌∙◌, ap₂, arith, w64, SFits, to_z, of_z}
 use borrow.Author.Differences.{ints}
 use Rattle.std.proofs.lemmas.Int.{to_z-of_z}
 use Rattle.sum_rule.specs.Sums.{times}
@@ -11,8 +11,8 @@ wide y h = omega (arith, ints)
 pub returns : goal.returns
 unfolding times
 returns c =
-    let k : to_z w64 (of_z w64 (to_z w8 (of_z w8 c.args.k))) ≡ c.args.k = omega (arith, ints) in
-    let z : to_z w64 (of_z w64 (to_z w32 (of_z w32 c.args.z))) ≡ c.args.z = omega (arith, ints) in
+    let k : to_z w64 (of_z w64 c.from.result) ≡ c.args.k = omega (arith, ints) in
+    let z : to_z w64 (of_z w64 c.from-2.result) ≡ c.args.z = omega (arith, ints) in
     let small = product_bound c.args.k c.args.z (omega (arith, ints)) (omega (arith, ints)) in
     let back = ap (λ y. to_z w64 (of_z w64 y)) (ap₂ ◌*ℤ◌ k z) ∙ to_z-of_z w64 (c.args.k *ℤ c.args.z) (wide _ small) in
     record { value = back; bound = rw back small }
