@@ -16,17 +16,17 @@ use Rattle.intervals.specs.Widths.{length_widths, width_at}
 
 if_void : (v a : Bool) → cond v Void (cond a Lone Open) ≡ Void → v ≡ true
 if_void true a e = refl
-if_void false true e = let z : ◌≡◌ {A = ℕ} 0 1 = cc in absurd (omega arith)
-if_void false false e = let z : ◌≡◌ {A = ℕ} 0 1 = cc in absurd (omega arith)
+if_void false true e = cc
+if_void false false e = cc
 
 if_lone : (v a : Bool) → cond v Void (cond a Lone Open) ≡ Lone → (v ≡ false) × (a ≡ true)
-if_lone true a e = let z : ◌≡◌ {A = ℕ} 0 1 = cc in absurd (omega arith)
+if_lone true a e = cc
 if_lone false true e = (refl, refl)
-if_lone false false e = let z : ◌≡◌ {A = ℕ} 0 1 = cc in absurd (omega arith)
+if_lone false false e = cc
 
 if_open : (v a : Bool) → cond v Void (cond a Lone Open) ≡ Open → (v ≡ false) × (a ≡ false)
-if_open true a e = let z : ◌≡◌ {A = ℕ} 0 1 = cc in absurd (omega arith)
-if_open false true e = let z : ◌≡◌ {A = ℕ} 0 1 = cc in absurd (omega arith)
+if_open true a e = cc
+if_open false true e = cc
 if_open false false e = (refl, refl)
 
 if_not_open : (v a : Bool) → cond v Void (cond a Lone Open) ≢ Open → (v || a) ≡ true
@@ -60,12 +60,8 @@ pub record Opened (s : IntervalBox) : Type 0 where
   pub on : widest_of (widths_of s) < s.n
   pub wide : 0 < width (low_at s (widest_of (widths_of s))) (high_at s (widest_of (widths_of s)))
 
-or_false : (v a : Bool) → v ≡ false → a ≡ false → (v || a) ≡ false
-or_false true a e f = e
-or_false false a e f = f
-
 pub open_says : (s : IntervalBox) → Sound s → extent_box s ≡ Open → Opened s
-open_says s sd e = record { full = p.0; unclosed = or_false s.void (all_single (widths_of s)) p.0 p.1; on = on; wide = wide }
+open_says s sd e = record { full = p.0; unclosed = rw (p.1, p.0); on = on; wide = wide }
   where
     p : (s.void ≡ false) × (all_single (widths_of s) ≡ false)
     p = if_open s.void (all_single (widths_of s)) e
