@@ -1,2 +1,1 @@
 pub mod ByCuts
-pub mod Points

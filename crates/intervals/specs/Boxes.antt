@@ -47,9 +47,5 @@ abbrev pub at_least : IntervalBox → ℕ → ℤ → IntervalBox
 at_least s k b = narrowed s k (int_max b (low_at s k)) (high_at s k)
 
 -- the box with v(p) at most b: an odd node bounds its setting from below
-abbrev pub bounded_by : IntervalBox → ℕ → ℤ → IntervalBox
-bounded_by s p b = cond (p % 2 == 0) (at_most s (p / 2) b) (at_least s (p / 2) (neg_ℤ b))
-
--- the same, shut
 unfoldable pub bounded : IntervalBox → ℕ → ℤ → IntervalBox
-bounded s p b = bounded_by s p b
+bounded s p b = cond (p % 2 == 0) (at_most s (p / 2) b) (at_least s (p / 2) (neg_ℤ b))

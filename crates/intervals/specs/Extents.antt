@@ -1,12 +1,12 @@
 -- What each extent says of a box, and the widest range of an open one. Assumes nothing.
-use Rattle.std.specs.Prelude.{◌≡◌, ℕ, ◌<◌, ◌≤◌, Bool, true, false, cond, ◌||◌, ◌≢◌, length, pos, nat_eq, slice_index, slice_index_or, refl}
+use Rattle.std.specs.Prelude.{◌≡◌, ℕ, ◌<◌, ◌≤◌, Bool, true, false, cond, ◌||◌, ◌≢◌, pos, nat_eq, slice_index, slice_index_or, refl}
 use Rattle.std.proofs.Common.{⊎_elim, sym, ◌∙◌, arith}
 use Rattle.std.proofs.lemmas.List.{get_or_past}
 use Rattle.std.proofs.lemmas.Int.{ints}
 use Rattle.std.proofs.lemmas.Bool.{both_ways, cases_lt, eqb-true, eq-eqb}
 use Rattle.interface.specs.declared.extent.Extent.TheVariants.{Void, Lone, Open}
 use Rattle.halving.specs.Halvings.{width, widest_of, all_single}
-use Rattle.halving.proofs.First.{every_decides}
+use Rattle.halving.proofs.First.{all_decides}
 use Rattle.halving.proofs.Places.{widest_is}
 use Rattle.intervals.specs.declared.interval_box.IntervalBox.{IntervalBox}
 use Rattle.intervals.specs.Boxes.{low_at, high_at, widths_of}
@@ -16,17 +16,17 @@ use Rattle.intervals.specs.Widths.{length_widths, width_at}
 
 if_void : (v a : Bool) → cond v Void (cond a Lone Open) ≡ Void → v ≡ true
 if_void true a e = refl
-if_void false true e = let z : ◌≡◌ {A = ℕ} 0 1 = cc in absurd (omega arith)
-if_void false false e = let z : ◌≡◌ {A = ℕ} 0 1 = cc in absurd (omega arith)
+if_void false true e = cc
+if_void false false e = cc
 
 if_lone : (v a : Bool) → cond v Void (cond a Lone Open) ≡ Lone → (v ≡ false) × (a ≡ true)
-if_lone true a e = let z : ◌≡◌ {A = ℕ} 0 1 = cc in absurd (omega arith)
+if_lone true a e = cc
 if_lone false true e = (refl, refl)
-if_lone false false e = let z : ◌≡◌ {A = ℕ} 0 1 = cc in absurd (omega arith)
+if_lone false false e = cc
 
 if_open : (v a : Bool) → cond v Void (cond a Lone Open) ≡ Open → (v ≡ false) × (a ≡ false)
-if_open true a e = let z : ◌≡◌ {A = ℕ} 0 1 = cc in absurd (omega arith)
-if_open false true e = let z : ◌≡◌ {A = ℕ} 0 1 = cc in absurd (omega arith)
+if_open true a e = cc
+if_open false true e = cc
 if_open false false e = (refl, refl)
 
 if_not_open : (v a : Bool) → cond v Void (cond a Lone Open) ≢ Open → (v || a) ≡ true
@@ -51,7 +51,7 @@ lone_says s sd e = record { full = p.0; level = level }
     p = if_lone s.void (all_single (widths_of s)) e
 
     level : (k : ℕ) → low_at s k ≡ high_at s k
-    level k = ⊎_elim (λ (h : k < 8). let z = eqb-true (slice_index (widths_of s) k) 0 ((every_decides (λ k. nat_eq (slice_index (widths_of s) k) 0) (length (widths_of s))).0 p.1 k (omega (arith, length_widths s))) in omega (arith, ints, z, width_at s k h)) (λ (h : 8 ≤ k). get_or_past s.lows k (pos 0) (omega (arith, sd.lows_are)) ∙ sym (get_or_past s.highs k (pos 0) (omega (arith, sd.highs_are)))) (cases_lt k 8)
+    level k = ⊎_elim (λ (h : k < 8). let z = eqb-true (slice_index (widths_of s) k) 0 ((all_decides (λ w. nat_eq w 0) (widths_of s)).0 p.1 k (omega (arith, length_widths s))) in omega (arith, ints, z, width_at s k h)) (λ (h : 8 ≤ k). get_or_past s.lows k (pos 0) (omega (arith, sd.lows_are)) ∙ sym (get_or_past s.highs k (pos 0) (omega (arith, sd.highs_are)))) (cases_lt k 8)
 
 -- an open box: its widest range is on the line and has two values
 pub record Opened (s : IntervalBox) : Type 0 where
@@ -60,12 +60,8 @@ pub record Opened (s : IntervalBox) : Type 0 where
   pub on : widest_of (widths_of s) < s.n
   pub wide : 0 < width (low_at s (widest_of (widths_of s))) (high_at s (widest_of (widths_of s)))
 
-or_false : (v a : Bool) → v ≡ false → a ≡ false → (v || a) ≡ false
-or_false true a e f = e
-or_false false a e f = f
-
 pub open_says : (s : IntervalBox) → Sound s → extent_box s ≡ Open → Opened s
-open_says s sd e = record { full = p.0; unclosed = or_false s.void (all_single (widths_of s)) p.0 p.1; on = on; wide = wide }
+open_says s sd e = record { full = p.0; unclosed = rw (p.1, p.0); on = on; wide = wide }
   where
     p : (s.void ≡ false) × (all_single (widths_of s) ≡ false)
     p = if_open s.void (all_single (widths_of s)) e
@@ -74,7 +70,7 @@ open_says s sd e = record { full = p.0; unclosed = or_false s.void (all_single (
     k<8 = omega (arith, (widest_is (widths_of s) 7 (length_widths s)).0, length_widths s)
 
     wide_at : 0 < slice_index (widths_of s) (widest_of (widths_of s))
-    wide_at = ⊎_elim (λ (h : 0 < slice_index (widths_of s) (widest_of (widths_of s))). h) (λ (h : slice_index_or (widths_of s) (widest_of (widths_of s)) 0 ≤ 0). absurd (both_ways (all_single (widths_of s)) p.1 ((every_decides (λ k. nat_eq (slice_index (widths_of s) k) 0) (length (widths_of s))).1 (λ j l. eq-eqb (slice_index (widths_of s) j) 0 (omega (arith, (widest_is (widths_of s) 7 (length_widths s)).1 j l, h)))))) (cases_lt 0 (slice_index (widths_of s) (widest_of (widths_of s))))
+    wide_at = ⊎_elim (λ (h : 0 < slice_index (widths_of s) (widest_of (widths_of s))). h) (λ (h : slice_index_or (widths_of s) (widest_of (widths_of s)) 0 ≤ 0). absurd (both_ways (all_single (widths_of s)) p.1 ((all_decides (λ w. nat_eq w 0) (widths_of s)).1 (λ j l. eq-eqb (slice_index (widths_of s) j) 0 (omega (arith, (widest_is (widths_of s) 7 (length_widths s)).1 j l, h)))))) (cases_lt 0 (slice_index (widths_of s) (widest_of (widths_of s))))
 
     wide : 0 < width (low_at s (widest_of (widths_of s))) (high_at s (widest_of (widths_of s)))
     wide = omega (arith, wide_at, width_at s (widest_of (widths_of s)) k<8)

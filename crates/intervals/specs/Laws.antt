@@ -71,7 +71,7 @@ offer_in : (s : IntervalBox) → Sound s → (x : Point) → offer_box s ≡ Som
 offer_in s sd x e = by s.void refl e
   where
     by : (v : Bool) → s.void ≡ v → cond v None (Some (record { n = s.n; values = s.lows })) ≡ Some x → In s (values_of x)
-    by true f g = let z : ◌≡◌ {A = ℕ} 0 1 = cc in absurd (omega arith)
+    by true f g = cc
     by false f g = let same : record { n = s.n; values = s.lows } ≡ x = cc in subst (λ y. In s (values_of y)) same (lows_in s sd f)
 
 offer_some : (s : IntervalBox) → s.void ≡ false → is_some (offer_box s) ≡ true

@@ -1,27 +1,8 @@
 // Bounding the settings of an interval box.
-ghost use Rattle.std.specs.Prelude.{◌≡◌, ◌^◌, pos, ◌-ℤ◌, neg_ℤ, ◌≤ℤ◌, ◌<ℤ◌, slice_set};
-ghost use Rattle.intervals.specs.Boxes.{voided, with_range, narrowed, at_most, at_least, bounded_by, bounded};
+ghost use Rattle.std.specs.Prelude.{◌≡◌, ◌^◌, pos, neg_ℤ, ◌≤ℤ◌, ◌<ℤ◌};
+ghost use Rattle.intervals.specs.Boxes.{voided, with_range, narrowed, at_most, at_least, bounded};
 
 use super::IntervalBox;
-
-// Writes b at place k; past the end there is nothing to write.
-fn put(values: &mut [i32; 8], k: u8, b: i32)
-    ensures { values.new ≡ slice_set values.old k b }
-{
-    if k < 8 {
-        values[k as usize] = b;
-    }
-}
-
-// What c leaves of a sum of two values where the one is at least this much.
-pub(crate) fn rest(c: i32, least: i64) -> i64
-    requires { (neg_ℤ (pos (2 ^ 31)) ≤ℤ least) × (least ≤ℤ pos (2 ^ 31)) }
-    ensures value { result ≡ c -ℤ least }
-    ensures low_bound { neg_ℤ (pos (2 ^ 33)) ≤ℤ result }
-    ensures high_bound { result ≤ℤ pos (2 ^ 33) }
-{
-    c as i64 - least
-}
 
 impl IntervalBox {
     // The one void box of as many settings.
@@ -40,8 +21,10 @@ impl IntervalBox {
         ensures { result ≡ with_range self.now k low high }
     {
         let mut s = *self;
-        put(&mut s.lows, k, low);
-        put(&mut s.highs, k, high);
+        if k < 8 {
+            s.lows[k as usize] = low;
+            s.highs[k as usize] = high;
+        }
         s
     }
 
@@ -74,21 +57,15 @@ impl IntervalBox {
     }
 
     // With v(p) at most b: an odd node bounds its setting from below.
-    fn bounded_by(&self, p: u8, b: i64) -> IntervalBox
+    #[tactic(auto, unfolding(crate::specs::Boxes::bounded))]
+    pub(crate) fn bounded(&self, p: u8, b: i64) -> IntervalBox
         requires { (neg_ℤ (pos (2 ^ 33)) ≤ℤ b) × (b ≤ℤ pos (2 ^ 33)) }
-        ensures { result ≡ bounded_by self.now p b }
+        ensures { result ≡ bounded self.now p b }
     {
         if p % 2 == 0 {
             self.at_most(p / 2, b)
         } else {
             self.at_least(p / 2, -b)
         }
-    }
-
-    pub(crate) fn bounded(&self, p: u8, b: i64) -> IntervalBox
-        requires { (neg_ℤ (pos (2 ^ 33)) ≤ℤ b) × (b ≤ℤ pos (2 ^ 33)) }
-        ensures { result ≡ bounded self.now p b }
-    {
-        self.bounded_by(p, b)
     }
 }

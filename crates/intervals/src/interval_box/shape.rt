@@ -1,15 +1,12 @@
 // The interval box as a shape.
-ghost use Rattle.std.specs.Prelude.{◌≡◌, ◌^◌, ◌<◌, ◌||◌, pos, ◌+ℤ◌, ◌-ℤ◌, neg_ℤ, ◌≤ℤ◌, if◌then◌else◌, nat_lt, slice_index_or};
-ghost use Rattle.interface.specs.Numbers.{half};
+ghost use Rattle.std.specs.Prelude.{◌≡◌, ◌^◌, ◌<◌, ◌||◌, pos, ◌-ℤ◌, neg_ℤ, ◌≤ℤ◌};
 ghost use Rattle.interface.specs.Points.{values_of};
-ghost use Rattle.intervals.specs.Boxes.{least, greatest, bounded};
-ghost use Rattle.intervals.specs.Answers.{front, start_box, cut_box, closed, middle, clipped, limited, lower_box, upper_box, extent_box, limit_box, holds_box, offer_box, halvings_box};
+ghost use Rattle.intervals.specs.Boxes.{least, bounded};
+ghost use Rattle.intervals.specs.Answers.{front, start_box, cut_box, closed, middle, limited, lower_box, upper_box, extent_box, limit_box, holds_box, offer_box, halvings_box};
 ghost use Rattle.intervals.specs.Model.{box_model};
 ghost use Rattle.intervals.specs.Laws.{box_laws};
 
 use super::IntervalBox;
-use super::bound::rest;
-use super::range::settings;
 use halving::{halvings, single, widest};
 use interface::cut::Cut;
 use interface::extent::Extent;
@@ -17,31 +14,13 @@ use interface::home::Home;
 use interface::node::opposite;
 use interface::point::Point;
 use interface::shape::Shape;
-
-// The value where it stands before n, else 0.
-fn kept(values: &[i32; 8], n: u8, k: u8) -> i32
-    requires { k < 8 }
-    ensures { result ≡ (if nat_lt k n then slice_index_or values.now k (pos 0) else pos 0) }
-{
-    if k < n { values[k as usize] } else { 0 }
-}
+use std::array;
 
 // The first n values, and 0 past them.
 fn front_of(values: &[i32; 8], n: u8) -> [i32; 8]
     ensures { result ≡ front n values.now }
 {
-    let mut kept_values = [0i32; 8];
-    for k in 0..8u8 {
-        kept_values[k as usize] = kept(values, n, k);
-    }
-    kept_values
-}
-
-// The number nearest to z within two million of 0.
-fn clip(z: i64) -> i32
-    ensures { result ≡ clipped z }
-{
-    z.clamp(-2_000_000, 2_000_000) as i32
+    array::from_fn(|k| if k < n as usize { values[k] } else { 0 })
 }
 
 impl IntervalBox {
@@ -61,19 +40,12 @@ impl IntervalBox {
         (self.low(k) as i64 + self.high(k) as i64).div_euclid(2)
     }
 
-    // With v(p) at most c halved.
-    fn bounded_once(&self, p: u8, c: i32) -> IntervalBox
-        ensures { result ≡ bounded self.now p (half c) }
-    {
-        self.bounded(p, c.div_euclid(2) as i64)
-    }
-
     // With each of v(p) and v(q) at most c less the least of the other, as it was before.
     fn bounded_both(&self, p: u8, q: u8, c: i32) -> IntervalBox
         ensures { result ≡ bounded (bounded self.now p (c -ℤ least self.now q)) q (c -ℤ least self.now p) }
     {
-        let most_p = rest(c, self.least(q));
-        let most_q = rest(c, self.least(p));
+        let most_p = c as i64 - self.least(q);
+        let most_q = c as i64 - self.least(p);
         self.bounded(p, most_p).bounded(q, most_q)
     }
 
@@ -87,7 +59,7 @@ impl IntervalBox {
         if !(self.on_line(p) && self.on_line(q)) {
             *self
         } else if p == q {
-            self.bounded_once(p, c)
+            self.bounded(p, c.div_euclid(2) as i64)
         } else {
             self.bounded_both(p, q, c)
         }
@@ -98,13 +70,6 @@ impl IntervalBox {
         ensures { result ≡ limited self.now p q }
     {
         !self.void && self.on_line(p) && self.on_line(q) && q != opposite(p)
-    }
-
-    // The sum of the greatest values at p and q.
-    fn sum(&self, p: u8, q: u8) -> i64
-        ensures { result ≡ greatest self.now p +ℤ greatest self.now q }
-    {
-        self.greatest(p) + self.greatest(q)
     }
 }
 
@@ -163,7 +128,7 @@ impl Shape for IntervalBox {
         ensures { result ≡ limit_box self.now p q }
     {
         if self.is_limited(p, q) {
-            clip(self.sum(p, q))
+            (self.greatest(p) + self.greatest(q)).clamp(-2_000_000, 2_000_000) as i32
         } else {
             0
         }
@@ -172,25 +137,25 @@ impl Shape for IntervalBox {
     fn holds(&self, point: &Point) -> bool
         ensures { result ≡ holds_box self.now (values_of point.now) }
     {
-        !self.void && settings(point) == self.n && self.inside(point)
+        !self.void && point.settings() == self.n && self.inside(point)
     }
 
     fn offer(&self) -> Option<Point>
         ensures { result ≡ offer_box self.now }
     {
-        if self.void {
-            return None;
-        }
-        let values = self.lows;
-        Some(Point { n: self.n, values })
+        (!self.void).then(|| Point {
+            n: self.n,
+            values: self.lows,
+        })
     }
 
     fn halvings(&self) -> u32
         ensures { result ≡ halvings_box self.now }
     {
         if self.void {
-            return 0;
+            0
+        } else {
+            halvings(&self.widths())
         }
-        halvings(&self.widths())
     }
 }
