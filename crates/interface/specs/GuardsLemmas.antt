@@ -25,17 +25,17 @@ clear_ok gs e = clear gs (ap is_ok e)
 
 judged_nothing : (o a : Bool) → verdict o a ≡ Nothing → o ≡ true
 judged_nothing true a e = refl
-judged_nothing false true e = absurd (omega (arith, ap verdict_number e))
-judged_nothing false false e = absurd (omega (arith, ap verdict_number e))
+judged_nothing false true e = absurd cc
+judged_nothing false false e = absurd cc
 
 judged_all : (o a : Bool) → verdict o a ≡ All → a ≡ true
-judged_all true a e = absurd (omega (arith, ap verdict_number e))
+judged_all true a e = absurd cc
 judged_all false true e = refl
-judged_all false false e = absurd (omega (arith, ap verdict_number e))
+judged_all false false e = absurd cc
 
 judged_unknown : (o a : Bool) → verdict o a ≡ Unknown → (o ≡ false) × (a ≡ false)
-judged_unknown true a e = absurd (omega (arith, ap verdict_number e))
-judged_unknown false true e = absurd (omega (arith, ap verdict_number e))
+judged_unknown true a e = absurd cc
+judged_unknown false true e = absurd cc
 judged_unknown false false e = (refl, refl)
 
 module _ {R : Type 0} (K : CoreModel R) (L : CoreLaws K) where
@@ -45,11 +45,11 @@ module _ {R : Type 0} (K : CoreModel R) (L : CoreLaws K) where
 
   all_meet : (r : R) (g : Reading) (b : Bool) → passes K g.n r ≡ b → cond b (verdict (K.none_within r g) (K.all_within r g)) Nothing ≡ All → (x : List ℤ) → Within g x → (b && K.meets r x) ≡ true
   all_meet r g true p e x w = L.all_meet r g (clear _ p) (judged_all _ _ e) x w
-  all_meet r g false p e x w = absurd (omega (arith, ap verdict_number e))
+  all_meet r g false p e x w = absurd cc
 
   known : (r : R) (g : Reading) (b : Bool) → passes K g.n r ≡ b → (x : List ℤ) → SumsOf g x → cond b (verdict (K.none_within r g) (K.all_within r g)) Nothing ≡ Unknown → ⊥
   known r g true p x s e = let u = judged_unknown _ _ e in L.known r g (clear _ p) x s u.0 u.1
-  known r g false p x s e = omega (arith, ap verdict_number e)
+  known r g false p x s e = cc
 
   standing_met : (n : ℕ) (r : R) (b : Bool) → passes K n r ≡ b → (t : Cut) → cond b (K.standing r) None ≡ Some t → (x : List ℤ) → length x ≡ n → (b && K.meets r x) ≡ true → Meets x t
   standing_met n r true p t e x l m = L.standing_met n r (clear _ p) t e x l m

@@ -12,7 +12,7 @@ use Rattle.rule_base.specs.Bounds.{cut_at, bounded}
 
 is_cut : (p q : ℕ) (c : ℤ) (b : Bool) (e : valid_cut p q c ≡ b) (t : Cut) → cut_if p q c b e ≡ Some t → (t.p ≡ p) × (t.q ≡ q) × (t.c ≡ c)
 is_cut p q c true e t h = let same : t ≡ record { p = p; q = q; c = c; ok = e } = cc in (ap (λ (s : Cut). s.p) same, ap (λ (s : Cut). s.q) same, ap (λ (s : Cut). s.c) same)
-is_cut p q c false e t h = let z : ◌≡◌ {A = ℕ} 0 1 = cc in absurd (omega arith)
+is_cut p q c false e t h = absurd cc
 
 pub cut_met : (p q : ℕ) (c : ℤ) (t : Cut) → cut_at p q c ≡ Some t → (x : List ℤ) → (p < 2 * length x → q < 2 * length x → (value x p +ℤ value x q) ≤ℤ c) → Meets x t
 unfolding cut_at
@@ -27,5 +27,5 @@ pub bound_met : (p : ℕ) (b : ℤ) (t : Cut) → bounded p b ≡ Some t → (x 
 bound_met p b t e x keeps = by (lt_z (pos 2000000) (b +ℤ b)) e
   where
     by : (above : Bool) → cond above None (cut_at p p (int_max (b +ℤ b) (neg_ℤ (pos 2000000)))) ≡ Some t → Meets x t
-    by true h = let z : ◌≡◌ {A = ℕ} 0 1 = cc in absurd (omega arith)
+    by true h = absurd cc
     by false h = cut_met p p (int_max (b +ℤ b) (neg_ℤ (pos 2000000))) t h x (λ _ _. omega (arith, ints, clamps, keeps))

@@ -69,18 +69,18 @@ module _ (r : ApartRule) (g : Reading) (ok : Clear (apart_grounds g.n r)) (x : L
   side_met w m false true e f t s =
       let from = gap_from w in
       cut_met _ _ _ t s x (λ _ _. grind (arith, ints, value_odd x r.a, value_even x r.b))
-  side_met w m false false e f t s = let z : ◌≡◌ {A = ℕ} 0 1 = cc in absurd (omega arith)
+  side_met w m false false e f t s = absurd cc
 
   proposed_met : Within g x → far r.d (gap r x) ≡ true → (first : Bool) (t : Cut) → cond first (apart_cut r g) None ≡ Some t → Meets x t
   proposed_met w m true t s = side_met w m _ _ refl refl t s
-  proposed_met w m false t s = let z : ◌≡◌ {A = ℕ} 0 1 = cc in absurd (omega arith)
+  proposed_met w m false t s = absurd cc
 
 pub apart_core_laws : CoreLaws apart_core
 apart_core_laws = record {
   none_meets = λ r g ok e x w. near_not_far r.d _ _ _ (gap_from r g ok x w) (gap_to r g ok x w) e;
   all_meet = λ r g ok e x w. far_far r.d _ _ _ (gap_from r g ok x w) (gap_to r g ok x w) e;
   known = λ r g ok x s e f. known r g ok x s e f;
-  standing_met = λ n r ok t e x l m. let z : ◌≡◌ {A = ℕ} 0 1 = cc in absurd (omega arith);
+  standing_met = λ n r ok t e x l m. absurd cc;
   proposed_met = λ r g ok i t e x w m. proposed_met r g ok x w m (i == 0) t e;
 }
 

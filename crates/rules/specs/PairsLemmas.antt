@@ -44,7 +44,7 @@ pair_met r t e x m = cut_met r.p r.q r.c t e x (λ _ _. omega (arith, ints))
 
 proposed_met : (r : PairRule) (g : Reading) (first : Bool) (t : Cut) → mathlib.Core.Bool.cond first (pair_cut r) None ≡ Some t → (x : List ℤ) → pair_meets r x ≡ true → Meets x t
 proposed_met r g true t e x m = pair_met r t e x m
-proposed_met r g false t e x m = let z : ◌≡◌ {A = ℕ} 0 1 = cc in absurd (omega arith)
+proposed_met r g false t e x m = absurd cc
 
 pub pair_core_laws : CoreLaws pair_core
 pair_core_laws = record {

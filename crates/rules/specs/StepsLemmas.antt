@@ -141,14 +141,14 @@ module _ (s : StepRule) (g : Reading) (ok : Clear (step_grounds g.n s)) (x : Lis
   cut_met w m false true t e =
       let from = first_least s (divides s _ ok) _ _ m (range_from g x s.a (on s _ ok) w) in
       bound_met (2 * s.a + 1) (neg_ℤ (first_from s (low_in g s.a))) t e x (omega (arith, ints, from, value_odd x s.a))
-  cut_met w m false false t e = let z : ◌≡◌ {A = ℕ} 0 1 = cc in absurd (omega arith)
+  cut_met w m false false t e = absurd cc
 
 pub step_core_laws : CoreLaws step_core
 step_core_laws = record {
   none_meets = λ s g ok e x w. none_leave s (divides s _ ok) _ _ _ (range_from g x s.a (on s _ ok) w) (range_to g x s.a (on s _ ok) w) e;
   all_meet = λ s g ok e x w. one_leave s _ _ _ (range_from g x s.a (on s _ ok) w) (range_to g x s.a (on s _ ok) w) e;
   known = known;
-  standing_met = λ n s ok t e x l m. let z : ◌≡◌ {A = ℕ} 0 1 = cc in absurd (omega arith);
+  standing_met = λ n s ok t e x l m. absurd cc;
   proposed_met = λ s g ok i t e x w m. cut_met s g ok x w m (i == 0) (i == 1) t e;
 }
 

@@ -12,7 +12,7 @@ use interface::reading::Reading;
 use rule_base::bounds::{cut_at, gap, negative};
 use wire::bytes::{byte_at, i32_at, i32_bytes};
 use wire::frame::{Frame, FrameKind};
-use wire::output::put_line;
+use wire::output::Output;
 
 // Settings a and b differ by at least d.
 #[derive(Clone, Copy)]
@@ -95,8 +95,9 @@ impl ApartRule {
     fn bytes(&self) -> [u8; 7]
         ensures { result ≡ (by_table apart_codec).write self.now }
     {
-        let d = i32_bytes(self.d);
-        [5, self.a, self.b, d[0], d[1], d[2], d[3]]
+        let mut bytes = [5, self.a, self.b, 0, 0, 0, 0];
+        bytes[3..].copy_from_slice(&i32_bytes(self.d));
+        bytes
     }
 }
 
@@ -121,8 +122,7 @@ impl Frame for ApartRule {
         }
     }
 
-    fn write(&self, out: &mut [u8], at: usize) -> Option<usize> {
-        let bytes = self.bytes();
-        put_line(out, at, &bytes)
+    fn write(&self, out: &mut Output) -> bool {
+        out.put_line(&self.bytes())
     }
 }

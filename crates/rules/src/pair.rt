@@ -13,7 +13,7 @@ use interface::reading::Reading;
 use rule_base::bounds::{cut_at, negative};
 use wire::bytes::{byte_at, i32_at, i32_bytes};
 use wire::frame::{Frame, FrameKind};
-use wire::output::put_line;
+use wire::output::Output;
 
 // v(p) + v(q) is at most c.
 #[derive(Clone, Copy, Default)]
@@ -67,8 +67,9 @@ impl PairRule {
     fn bytes(&self) -> [u8; 7]
         ensures { result ≡ (by_table pair_codec).write self.now }
     {
-        let c = i32_bytes(self.c);
-        [2, self.p, self.q, c[0], c[1], c[2], c[3]]
+        let mut bytes = [2, self.p, self.q, 0, 0, 0, 0];
+        bytes[3..].copy_from_slice(&i32_bytes(self.c));
+        bytes
     }
 }
 
@@ -93,8 +94,7 @@ impl Frame for PairRule {
         }
     }
 
-    fn write(&self, out: &mut [u8], at: usize) -> Option<usize> {
-        let bytes = self.bytes();
-        put_line(out, at, &bytes)
+    fn write(&self, out: &mut Output) -> bool {
+        out.put_line(&self.bytes())
     }
 }

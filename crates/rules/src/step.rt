@@ -10,9 +10,10 @@ use interface::guard::{Core, first_fault};
 use interface::point::Point;
 use interface::reading::Reading;
 use rule_base::bounds::{bounded_by, gap};
-use wire::bytes::{byte_at, i32_at, i32_bytes};
+use wire::bytes::{byte_at, i32_at};
 use wire::frame::{Frame, FrameKind};
-use wire::output::put_line;
+use wire::output::Output;
+use wire::words::words_frame;
 
 // Setting a divided by m, rounded down, leaves r.
 #[derive(Clone, Copy)]
@@ -102,9 +103,7 @@ impl StepRule {
     fn bytes(&self) -> [u8; 10]
         ensures { result ≡ (by_table step_codec).write self.now }
     {
-        let m = i32_bytes(self.m);
-        let r = i32_bytes(self.r);
-        [6, self.a, m[0], m[1], m[2], m[3], r[0], r[1], r[2], r[3]]
+        words_frame(6, self.a, &[self.m, self.r])
     }
 }
 
@@ -129,8 +128,7 @@ impl Frame for StepRule {
         }
     }
 
-    fn write(&self, out: &mut [u8], at: usize) -> Option<usize> {
-        let bytes = self.bytes();
-        put_line(out, at, &bytes)
+    fn write(&self, out: &mut Output) -> bool {
+        out.put_line(&self.bytes())
     }
 }

@@ -100,21 +100,21 @@ module _ (r : SumRule) (g : Reading) (ok : Clear (sum_grounds g.n r)) (x : List 
       room = omega (arith, ints, a, b)
 
       by : (empty : Bool) → is_empty u ≡ empty → cond empty None (bounded (cond (int_lt u.coefficient (pos 0)) (2 * u.setting + 1) (2 * u.setting)) (int_div_euclid (left_for r g v w) (pos (unsigned_abs u.coefficient)))) ≡ Some t → Meets x t
-      by true f s = let z : ◌≡◌ {A = ℕ} 0 1 = cc in absurd (omega arith)
+      by true f s = absurd cc
       by false f s = bound_met _ _ t s x (node_bound x u.setting u.coefficient (left_for r g v w) f room)
 
   cut_met : Within g x → sum_meets r x ≡ true → (zeroth first second : Bool) (t : Cut) → cond zeroth (term_cut r g r.first r.second r.third) (cond first (term_cut r g r.second r.first r.third) (cond second (term_cut r g r.third r.first r.second) None)) ≡ Some t → Meets x t
   cut_met w m true first second t e = term_met r.first r.second r.third second_on third_on w (omega (arith, ints)) t e
   cut_met w m false true second t e = term_met r.second r.first r.third first_on third_on w (omega (arith, ints)) t e
   cut_met w m false false true t e = term_met r.third r.first r.second first_on second_on w (omega (arith, ints)) t e
-  cut_met w m false false false t e = let z : ◌≡◌ {A = ℕ} 0 1 = cc in absurd (omega arith)
+  cut_met w m false false false t e = absurd cc
 
 pub sum_core_laws : CoreLaws sum_core
 sum_core_laws = record {
   none_meets = λ r g ok e x w. none_meets r g ok x e w;
   all_meet = λ r g ok e x w. all_meet r g ok x e w;
   known = known;
-  standing_met = λ n r ok t e x l m. let z : ◌≡◌ {A = ℕ} 0 1 = cc in absurd (omega arith);
+  standing_met = λ n r ok t e x l m. absurd cc;
   proposed_met = λ r g ok i t e x w m. cut_met r g ok x w m (i == 0) (i == 1) (i == 2) t e;
 }
 

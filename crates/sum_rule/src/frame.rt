@@ -1,5 +1,7 @@
 // The sum rule's frame: 03, three times setting and coefficient, one byte each, then t.
-ghost use Rattle.std.specs.Prelude.{◌≡◌};
+ghost use Rattle.std.specs.Prelude.{◌≡◌, [], ◌∷◌};
+ghost use Rattle.std.specs.Int.{w8};
+ghost use Rattle.std.proofs.Common.{of_z};
 ghost use Rattle.sum_rule.specs.Sums.{sum_codec, read_term};
 ghost use Rattle.wire.specs.Bytes.{unhex};
 ghost use Rattle.wire.specs.Frames.{by_table};
@@ -8,29 +10,26 @@ ghost use Rattle.sum_rule.specs.SumsLemmas.{sum_trips};
 use super::sum::{SumRule, Term};
 use wire::bytes::{byte_at, i8_at, i32_at, i32_bytes};
 use wire::frame::{Frame, FrameKind};
-use wire::output::put_line;
+use wire::output::Output;
+
+impl Term {
+    fn bytes(&self) -> [u8; 2]
+        ensures { result ≡ self.now.setting ∷ of_z w8 self.now.coefficient ∷ [] }
+    {
+        [self.setting, self.coefficient.cast_unsigned()]
+    }
+}
 
 impl SumRule {
     fn bytes(&self) -> [u8; 11]
         ensures { result ≡ (by_table sum_codec).write self.now }
     {
-        let first = self.first.coefficient.cast_unsigned();
-        let second = self.second.coefficient.cast_unsigned();
-        let third = self.third.coefficient.cast_unsigned();
-        let t = i32_bytes(self.t);
-        [
-            3,
-            self.first.setting,
-            first,
-            self.second.setting,
-            second,
-            self.third.setting,
-            third,
-            t[0],
-            t[1],
-            t[2],
-            t[3],
-        ]
+        let [a, k] = self.first.bytes();
+        let [b, l] = self.second.bytes();
+        let [c, m] = self.third.bytes();
+        let mut bytes = [3, a, k, b, l, c, m, 0, 0, 0, 0];
+        bytes[7..].copy_from_slice(&i32_bytes(self.t));
+        bytes
     }
 }
 
@@ -38,7 +37,7 @@ impl SumRule {
 fn term_at(digits: &[u8], i: u8) -> Term
     ensures { result ≡ read_term (unhex digits.now) i }
 {
-    let place = i as usize;
+    let place = usize::from(i);
     Term {
         setting: byte_at(digits, place),
         coefficient: i8_at(digits, place + 1),
@@ -67,8 +66,7 @@ impl Frame for SumRule {
         }
     }
 
-    fn write(&self, out: &mut [u8], at: usize) -> Option<usize> {
-        let bytes = self.bytes();
-        put_line(out, at, &bytes)
+    fn write(&self, out: &mut Output) -> bool {
+        out.put_line(&self.bytes())
     }
 }
