@@ -3,7 +3,6 @@ use super::words::{coefficient, node, number, setting};
 use interface::home::Home;
 use rules::any::AnyRule;
 use rules::apart::ApartRule;
-use rules::joined::Joined;
 use rules::pair::PairRule;
 use rules::step::StepRule;
 use search_theory::request::Request;
@@ -95,14 +94,10 @@ fn read_step(a: &str, m: &str, r: &str) -> Option<StepRule> {
 // The four rules in words.
 fn read_rule(words: &[&str]) -> Option<AnyRule> {
     match words {
-        ["pair", p, q, "<=", c] => Some(Joined::First(read_pair(p, q, c)?)),
-        ["sum", rest @ ..] => Some(Joined::Second(Joined::First(read_sum(rest)?))),
-        ["apart", a, b, ">=", d] => Some(Joined::Second(Joined::Second(Joined::First(read_apart(
-            a, b, d,
-        )?)))),
-        ["step", a, "by", m, "rest", r] => Some(Joined::Second(Joined::Second(Joined::Second(
-            read_step(a, m, r)?,
-        )))),
+        ["pair", p, q, "<=", c] => read_pair(p, q, c).map(AnyRule::from),
+        ["sum", rest @ ..] => read_sum(rest).map(AnyRule::from),
+        ["apart", a, b, ">=", d] => read_apart(a, b, d).map(AnyRule::from),
+        ["step", a, "by", m, "rest", r] => read_step(a, m, r).map(AnyRule::from),
         _ => None,
     }
 }

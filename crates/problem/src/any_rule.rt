@@ -6,7 +6,6 @@ ghost use Rattle.problem.specs.AnyRules.{known_kinds, rule_of, filler};
 use interface::home::Home;
 use rules::any::AnyRule;
 use rules::apart::ApartRule;
-use rules::joined::Joined;
 use rules::pair::PairRule;
 use rules::step::StepRule;
 use sum_rule::sum::SumRule;
@@ -32,10 +31,10 @@ pub fn read_rule(digits: &[u8]) -> AnyRule
 {
     // by the byte itself: an enum between it and the rule would only name each kind once more
     match byte_at(digits, 0) {
-        2 => Joined::First(PairRule::read(digits)),
-        3 => Joined::Second(Joined::First(SumRule::read(digits))),
-        5 => Joined::Second(Joined::Second(Joined::First(ApartRule::read(digits)))),
-        _ => Joined::Second(Joined::Second(Joined::Second(StepRule::read(digits)))),
+        2 => AnyRule::from(PairRule::read(digits)),
+        3 => AnyRule::from(SumRule::read(digits)),
+        5 => AnyRule::from(ApartRule::read(digits)),
+        _ => AnyRule::from(StepRule::read(digits)),
     }
 }
 
@@ -43,5 +42,5 @@ pub fn read_rule(digits: &[u8]) -> AnyRule
 pub fn no_rule() -> AnyRule
     ensures { result ≡ filler }
 {
-    Joined::First(PairRule { p: 0, q: 0, c: 0 })
+    AnyRule::from(PairRule { p: 0, q: 0, c: 0 })
 }

@@ -13,7 +13,7 @@ fn end_bytes(outcome: Outcome, found: bool, steps: u32) -> [u8; 7]
     let steps = u32_bytes(steps);
     [
         0x1F,
-        outcome.number(),
+        u8::from(outcome),
         u8::from(found),
         steps[0],
         steps[1],
