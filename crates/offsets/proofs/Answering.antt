@@ -1,5 +1,5 @@
 -- The calls that solve an accepted text are accepted, so its lines tell a report; and they fit the output. Assumes nothing.
-use Rattle.std.proofs.Common.{◌≡◌, ℕ, ◌+◌, ◌-◌, ◌*◌, ◌/◌, ◌<◌, ◌≤◌, min, List, [], ◌∷◌, ◌++◌, length, take, replicate, Ok, Err, Result, sym, refl, ap, ◌∙◌, subst, arith, length-take}
+use Rattle.std.proofs.Common.{◌≡◌, ℕ, ◌+◌, ◌*◌, ◌≤◌, List, [], ◌∷◌, length, take, Ok, Err, Result, refl, ap, ◌∙◌, subst, arith, length-take}
 use lib.ListN.{length-replicate}
 use Rattle.std.specs.List.{flat_map}
 use Rattle.interface.specs.declared.fault.SolverFault.TheVariants.{Record}
@@ -14,7 +14,7 @@ use Rattle.report_lines.proofs.Bounds.{size_on, regions_bound}
 use Rattle.wire.specs.Appending.{lines_size}
 use Rattle.report_lines.specs.EndFrame.{end_frame}
 use Rattle.rules.proofs.AnyLaws.{any_laws}
-use Rattle.rules.specs.Any.{AnyRule, any_model}
+use Rattle.rules.specs.Any.{any_model}
 use Rattle.search_theory.specs.declared.region.Region.{Region}
 use Rattle.search_theory.specs.declared.report.Report.{Report}
 use Rattle.search_theory.specs.Regions.{read}
@@ -24,7 +24,7 @@ use Rattle.solving.proofs.Calls.{solves_truly}
 use Rattle.solving.specs.Solving.{Solvable, TrueOf, solved}
 use Rattle.offsets.proofs.Halvings.{enough}
 use Rattle.offsets.specs.Entry.{copies, no_point, room_in, memory, frames_of, report_frames, answer_frames, problem_frames, opened_frames, entry_frames}
-use Rattle.offsets.specs.Truth.{Told, TellsTruly}
+use Rattle.offsets.specs.Truth.{Told}
 
 length_copies : {A : Type 0} (n : ℕ) (x : A) → length (copies n x) ≡ n
 unfolding copies

@@ -1,5 +1,5 @@
 -- What the entry point writes: the frames that answer a text. Assumes nothing.
-use Rattle.std.specs.Prelude.{ℕ, ◌-◌, ◌/◌, min, cond, ltb, List, [], ◌∷◌, ◌++◌, length, take, replicate, ℤ, pos, Ok, Err, Result}
+use Rattle.std.specs.Prelude.{ℕ, ◌-◌, ◌/◌, min, List, [], ◌∷◌, ◌++◌, take, replicate, pos, Ok, Err, Result}
 use Rattle.std.specs.List.{flat_map}
 use Rattle.interface.specs.declared.fault.SolverFault.{SolverFault}
 use Rattle.interface.specs.declared.fault.SolverFault.TheVariants.{Phase}
@@ -12,7 +12,6 @@ use Rattle.problem.specs.Reading.{Stated, read_text}
 use Rattle.report_lines.specs.EndFrame.{end_frame}
 use Rattle.report_lines.specs.RegionFrames.{region_frames}
 use Rattle.rules.specs.Any.{AnyRule, any_model}
-use Rattle.search_theory.specs.declared.checkpoint.Checkpoint.{Checkpoint}
 use Rattle.search_theory.specs.declared.region.Region.{Region}
 use Rattle.search_theory.specs.declared.reply.Reply.{Reply}
 use Rattle.search_theory.specs.declared.reply.Reply.TheVariants.{Accepted, Ran, LimitIs}

@@ -5,7 +5,7 @@ use Rattle.offsets.specs.Entry.{answer_frames}
 use Rattle.rules.specs.Any.{AnyRule, any_model}
 use Rattle.search_theory.specs.declared.region.Region.{Region}
 use Rattle.search_theory.specs.declared.request.Request.TheVariants.{State, Begin, Run}
-use Rattle.search_theory.specs.Requests.{World, Answered, answer}
+use Rattle.search_theory.specs.Requests.{World, answer}
 use Rattle.solving.specs.Solving.{after_calls}
 
 module _ {S : Type 0} (M : ShapeModel S) where

@@ -4,7 +4,7 @@ ghost use Rattle.octagon.specs.Octagons.{octagon_model};
 ghost use Rattle.offsets.specs.Entry.{entry_frames, problem_frames, room_in};
 ghost use Rattle.offsets.specs.Truth.{entry_count, entry_output, TellsTruly};
 ghost use Rattle.problem.specs.Problems.{stated_by};
-ghost use Rattle.wire.specs.Appending.{Appends, lines_in};
+ghost use Rattle.wire.specs.Appending.{Appends, lines, lines_in, put_frames};
 
 use super::memory::solve_opened;
 use problem::problem::{Problem, read_problem};
@@ -21,13 +21,21 @@ fn solve_problem(problem: &Problem, budget: u32, output: &mut Output)
     }
 }
 
-fn answer_into(input: &[u8], budget: u32, output: &mut Output)
+fn put_lines(input: &[u8], budget: u32, output: &mut Output)
     ensures { Appends output.old output.new (entry_frames octagon_model input.now budget (length (lines_in output.old).output)) }
 {
     match read_problem(input) {
         Ok(problem) => solve_problem(&problem, budget, output),
         Err(refusal) => put_refusal(output, refusal.fault, refusal.line),
     }
+}
+
+fn answer_into(input: &[u8], budget: u32, output: &mut [u8]) -> usize
+    ensures { lines output.new result ≡ put_frames (lines output.old 0) (entry_frames octagon_model input.now budget (length output.old)) }
+{
+    let mut lines = Output::new(output);
+    put_lines(input, budget, &mut lines);
+    lines.place()
 }
 
 // Solves the problem that a text states with at most so many steps, and writes the lines that answer it from the
@@ -41,7 +49,5 @@ pub fn offsets_solve(input: &[u8], budget: u32, output: &mut [u8]) -> usize
     if output.len() < 1897 {
         return 0;
     }
-    let mut lines = Output::new(output);
-    answer_into(input, budget, &mut lines);
-    lines.place()
+    answer_into(input, budget, output)
 }

@@ -17,5 +17,5 @@ returns-in-Ok c =
     let room = room_in (length c.args.output.now.bytes.now) in
     let m = memory octagon_model (octagon_model.start h) room in
     let same = ap (λ v. answered_in octagon_model (record { solver = v; rules = m.rules; checkpoints = m.checkpoints; stack = m.stack }) m.out rs c.args.budget) (opened_is (home_check h) (view c.in-Ok.solver) (opened octagon_model h) c.in-Ok.ensures)
-        ∙ ap (λ o. opened_frames octagon_model o h rs c.args.budget room) c.in-Ok.ensures in
+    ∙ ap (λ o. opened_frames octagon_model o h rs c.args.budget room) c.in-Ok.ensures in
     subst (Appends c.args.output.now c.solve_opened.new.output) same c.solve_opened.ensures

@@ -1,5 +1,5 @@
-use Rattle.std.proofs.Common.{◌≡◌, ◌-◌, subst, ◌∙◌, arith}
-use Rattle.offsets.specs.Entry.{copies}
+use Rattle.std.proofs.Common.{◌≡◌, ◌-◌, ap, subst, ◌∙◌, arith}
+use Rattle.offsets.specs.Entry.{copies, room_in}
 use Rattle.offsets.proofs.Memories.{same_memory}
 use Rattle.wire.specs.Appending.{Appends}
 use Rattle.offsets.proofs.memory.solve_opened.Goals as goal
@@ -10,5 +10,5 @@ returns c =
     let r = c.region_room-room.result in
     let all : r - 0 ≡ r = omega arith in
     subst (Appends c.args.output.now c.search_in.new.output)
-    (same_memory c.args.solver.now c.args.budget _ _ _ _ _ _ _ _ _ _ c.no_rule-rules.ensures c.start-shape.ensures.value c.empty_point-point.ensures (all ∙ c.region_room-room.ensures.value ∙ ?) c.stated.ensures)
+    (same_memory c.args.solver.now c.args.budget _ _ _ _ _ _ _ _ _ _ c.no_rule-rules.ensures c.start-shape.ensures.value c.empty_point-point.ensures (all ∙ c.region_room-room.ensures.value ∙ ap room_in c.size.ensures) c.stated.ensures)
     c.search_in.ensures

@@ -6,4 +6,4 @@ use Rattle.offsets.proofs.regions.put_one.Goals as goal
 
 pub returns : goal.returns
 unfolding read
-returns c = subst (λ r. Appends c.args.output.now c.put_region.new.output (region_frames r c.args.region.now.point)) c.reading-reading.ensures c.put_region.ensures.appends
+returns c = subst (λ r. Appends c.args.output.now c.put_region.new.out (region_frames r c.args.region.now.point)) c.reading-reading.ensures c.put_region.ensures.appends

@@ -11,4 +11,4 @@ pub returns : goal.returns
 returns c =
     let p = c.args.report in
     let regions = subst (λ gs. Appends c.args.output.now c.put_all.new.output (flat_map (frames_of octagon_model) gs)) c.front.ensures c.put_all.ensures in
-    appends_on c.args.output.now c.put_all.new.output c.put_end.new.output _ (end_frame p.outcome p.found p.steps ∷ []) regions c.put_end.ensures.appends
+    appends_on c.args.output.now c.put_all.new.output c.put_end.new.out _ (end_frame p.outcome p.found p.steps ∷ []) regions c.put_end.ensures.appends

@@ -11,5 +11,5 @@ abbrev pub invariant-loop-rule : goal.invariant-loop-rule
 invariant-loop-rule l = record {
   same_slices : SameSlices l.initial.lent l.lent;
   same_out : l.lent.out.now ≡ l.initial.lent.out.now;
-  rest : after_calls octagon_model any_model (world_with l.solver l.lent) l.lent.out.now (map State (drop l.rule-index l.stated)) ≡ after_calls octagon_model any_model (world_with l.initial.solver l.initial.lent) l.initial.lent.out.now (map State l.stated)
+  rest : after_calls octagon_model any_model (world_with l.solver l.lent) l.lent.out.now (map State (drop l.rule-index l.stated)) ≡ after_calls octagon_model any_model (world_with l.initial.solver l.initial.lent) l.initial.lent.out.now (map State l.stated);
 }
