@@ -2,7 +2,7 @@
 ghost use Rattle.std.specs.Prelude.{◌≡◌, ◌^◌, pos, neg_ℤ, ◌≤ℤ◌, ◌<ℤ◌};
 ghost use Rattle.intervals.specs.Boxes.{voided, with_range, narrowed, at_most, at_least, bounded};
 
-use super::IntervalBox;
+use super::{IntervalBox, Span};
 
 impl IntervalBox {
     // The one void box of as many settings.
@@ -12,8 +12,7 @@ impl IntervalBox {
         IntervalBox {
             n: self.n,
             void: true,
-            lows: [0; 8],
-            highs: [0; 8],
+            spans: [Span { low: 0, high: 0 }; 8],
         }
     }
 
@@ -22,8 +21,7 @@ impl IntervalBox {
     {
         let mut s = *self;
         if k < 8 {
-            s.lows[k as usize] = low;
-            s.highs[k as usize] = high;
+            s.spans[k as usize] = Span { low, high };
         }
         s
     }
