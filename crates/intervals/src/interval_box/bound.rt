@@ -16,6 +16,7 @@ impl IntervalBox {
         }
     }
 
+    // With another span of setting k; past the end there is none. By index: after `get_mut` a proof knows no element.
     fn ranged(&self, k: u8, low: i32, high: i32) -> IntervalBox
         ensures { result ≡ with_range self.now k low high }
     {
@@ -40,6 +41,7 @@ impl IntervalBox {
         }
     }
 
+    // A bound from above and one from below are each a call of `narrowed`; one function for both would need a flag.
     // Without the values of setting k above b.
     pub(crate) fn at_most(&self, k: u8, b: i64) -> IntervalBox
         ensures { result ≡ at_most self.now k b }
