@@ -12,14 +12,18 @@ use Rattle.interface.specs.Numbers.{half}
 use Rattle.halving.specs.First.{every}
 use Rattle.halving.specs.Halvings.{all_single, halvings_of, widest_of}
 use Rattle.intervals.specs.declared.interval_box.IntervalBox.{IntervalBox}
-use Rattle.intervals.specs.Boxes.{low_at, high_at, least, greatest, widths_of, on_line, bounded, at_most, at_least}
+use Rattle.intervals.specs.declared.interval_box.Span.{Span}
+use Rattle.intervals.specs.Boxes.{zero_span, low_at, high_at, least, greatest, widths_of, on_line, bounded, at_most, at_least}
 
--- the first n values, and 0 past them
-unfoldable pub front : ℕ → List ℤ → List ℤ
-front n xs = map (λ k. cond (nat_lt k n) (slice_index_or xs k (pos 0)) (pos 0)) (range_with_len 0 8)
+-- the home's span of setting k, and 0 past its settings
+abbrev pub home_span : Home → ℕ → Span
+home_span h k = cond (nat_lt k h.n) (record { low = slice_index_or h.lows k (pos 0); high = slice_index_or h.highs k (pos 0) }) zero_span
+
+unfoldable pub home_spans : Home → List Span
+home_spans h = map (home_span h) (range_with_len 0 8)
 
 abbrev pub start_box : Home → IntervalBox
-start_box h = record { n = h.n; void = false; lows = front h.n h.lows; highs = front h.n h.highs }
+start_box h = record { n = h.n; void = false; spans = home_spans h }
 
 -- A cut with p = q bounds v(p) by c halved. Another bounds each of v(p) and v(q) by c less the least of the other, as it was before the cut.
 -- One with a node that is not on the line changes nothing.
@@ -63,9 +67,11 @@ in_range s k z = int_le (low_at s k) z && int_le z (high_at s k)
 abbrev pub holds_box : IntervalBox → List ℤ → Bool
 holds_box s x = not s.void && (length x == s.n && every (λ k. in_range s k (slice_index_or x k (pos 0))) s.n)
 
--- all lows
+unfoldable pub all_lows : IntervalBox → List ℤ
+all_lows s = map (low_at s) (range_with_len 0 8)
+
 abbrev pub offer_box : IntervalBox → Option Point
-offer_box s = cond s.void None (Some (record { n = s.n; values = s.lows }))
+offer_box s = cond s.void None (Some (record { n = s.n; values = all_lows s }))
 
 abbrev pub halvings_box : IntervalBox → ℕ
 halvings_box s = cond s.void 0 (halvings_of (widths_of s))

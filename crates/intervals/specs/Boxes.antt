@@ -4,13 +4,18 @@ use Rattle.std.specs.List.{range_with_len}
 use Rattle.std.specs.Int.{int_min, int_max}
 use Rattle.halving.specs.Halvings.{width}
 use Rattle.intervals.specs.declared.interval_box.IntervalBox.{IntervalBox}
+use Rattle.intervals.specs.declared.interval_box.Span.{Span}
+
+-- the span of one value, 0
+abbrev pub zero_span : Span
+zero_span = record { low = pos 0; high = pos 0 }
 
 -- the least and the greatest value of setting k
 abbrev pub low_at : IntervalBox → ℕ → ℤ
-low_at s k = slice_index_or s.lows k (pos 0)
+low_at s k = (slice_index_or s.spans k zero_span).low
 
 abbrev pub high_at : IntervalBox → ℕ → ℤ
-high_at s k = slice_index_or s.highs k (pos 0)
+high_at s k = (slice_index_or s.spans k zero_span).high
 
 -- the least and the greatest v(p): an odd node stands for the negative of its setting
 abbrev pub least : IntervalBox → ℕ → ℤ
@@ -29,11 +34,11 @@ on_line s p = nat_lt p (2 * s.n)
 
 -- the one void box of n settings: its ranges say nothing and are 0
 abbrev pub voided : IntervalBox → IntervalBox
-voided s = record { n = s.n; void = true; lows = replicate 8 (pos 0); highs = replicate 8 (pos 0) }
+voided s = record { n = s.n; void = true; spans = replicate 8 zero_span }
 
 -- the box with another range of setting k
 abbrev pub with_range : IntervalBox → ℕ → ℤ → ℤ → IntervalBox
-with_range s k low high = record { n = s.n; void = s.void; lows = slice_set s.lows k low; highs = slice_set s.highs k high }
+with_range s k low high = record { n = s.n; void = s.void; spans = slice_set s.spans k (record { low = low; high = high }) }
 
 -- the same where the range has a value, else the void box; what is void stays as it is
 abbrev pub narrowed : IntervalBox → ℕ → ℤ → ℤ → IntervalBox

@@ -1,6 +1,6 @@
 -- What each extent says of a box, and the widest range of an open one. Assumes nothing.
-use Rattle.std.specs.Prelude.{◌≡◌, ℕ, ◌<◌, ◌≤◌, Bool, true, false, cond, ◌||◌, ◌≢◌, pos, nat_eq, slice_index, slice_index_or, refl}
-use Rattle.std.proofs.Common.{⊎_elim, sym, ◌∙◌, arith}
+use Rattle.std.specs.Prelude.{◌≡◌, ℕ, ◌<◌, ◌≤◌, Bool, true, false, cond, ◌||◌, ◌≢◌, nat_eq, slice_index, slice_index_or, refl}
+use Rattle.std.proofs.Common.{⊎_elim, sym, ap, ◌∙◌, arith}
 use Rattle.std.proofs.lemmas.List.{get_or_past}
 use Rattle.std.proofs.lemmas.Int.{ints}
 use Rattle.std.proofs.lemmas.Bool.{both_ways, cases_lt, eqb-true, eq-eqb}
@@ -9,7 +9,7 @@ use Rattle.halving.specs.Halvings.{width, widest_of, all_single}
 use Rattle.halving.proofs.First.{all_decides}
 use Rattle.halving.proofs.Places.{widest_is}
 use Rattle.intervals.specs.declared.interval_box.IntervalBox.{IntervalBox}
-use Rattle.intervals.specs.Boxes.{low_at, high_at, widths_of}
+use Rattle.intervals.specs.Boxes.{zero_span, low_at, high_at, widths_of}
 use Rattle.intervals.specs.Answers.{extent_box, closed}
 use Rattle.intervals.specs.Sound.{Sound}
 use Rattle.intervals.specs.Widths.{length_widths, width_at}
@@ -51,7 +51,7 @@ lone_says s sd e = record { full = p.0; level = level }
     p = if_lone s.void (all_single (widths_of s)) e
 
     level : (k : ℕ) → low_at s k ≡ high_at s k
-    level k = ⊎_elim (λ (h : k < 8). let z = eqb-true (slice_index (widths_of s) k) 0 ((all_decides (λ w. nat_eq w 0) (widths_of s)).0 p.1 k (omega (arith, length_widths s))) in omega (arith, ints, z, width_at s k h)) (λ (h : 8 ≤ k). get_or_past s.lows k (pos 0) (omega (arith, sd.lows_are)) ∙ sym (get_or_past s.highs k (pos 0) (omega (arith, sd.highs_are)))) (cases_lt k 8)
+    level k = ⊎_elim (λ (h : k < 8). let z = eqb-true (slice_index (widths_of s) k) 0 ((all_decides (λ w. nat_eq w 0) (widths_of s)).0 p.1 k (omega (arith, length_widths s))) in omega (arith, ints, z, width_at s k h)) (λ (h : 8 ≤ k). let past = get_or_past s.spans k zero_span (omega (arith, sd.spans_are)) in ap (λ r. r.low) past ∙ sym (ap (λ r. r.high) past)) (cases_lt k 8)
 
 -- an open box: its widest range is on the line and has two values
 pub record Opened (s : IntervalBox) : Type 0 where

@@ -1,7 +1,8 @@
 -- The interval box means what a shape means: every law, from what each operation keeps. Assumes nothing.
-use Rattle.std.specs.Prelude.{◌≡◌, ℕ, ◌<◌, ◌≤◌, Bool, true, false, cond, ◌||◌, List, take, ℤ, pos, ◌+ℤ◌, ◌≤ℤ◌, is_some, Some, None, refl}
+use Rattle.std.specs.Prelude.{◌≡◌, ℕ, ◌<◌, ◌≤◌, Bool, true, false, cond, ◌||◌, List, length, take, ℤ, pos, ◌+ℤ◌, ◌≤ℤ◌, is_some, Some, None, refl}
 use Rattle.std.proofs.Common.{sym, subst, ◌∙◌, arith}
 use Rattle.std.proofs.lemmas.List.{length-take-le, get_or-take, ext_get_or}
+use Rattle.std.proofs.lemmas.List.FromFn.{length-map-range_with_len, get_or-map-range_with_len}
 use Rattle.std.proofs.lemmas.Int.{ints}
 use Rattle.std.proofs.lemmas.Bool.{both_ways, cond-true, cond-false}
 use Rattle.std.proofs.lemmas.Bool.Decides.{Decides-like}
@@ -16,14 +17,15 @@ use Rattle.halving.specs.Halvings.{widest_of}
 use Rattle.halving.proofs.Lowers.{halvings_some}
 use Rattle.halving.proofs.Places.{widest_is}
 use Rattle.intervals.specs.declared.interval_box.IntervalBox.{IntervalBox}
-use Rattle.intervals.specs.Boxes.{widths_of, greatest, at_most}
-use Rattle.intervals.specs.Answers.{start_box, clipped, limited, limit_box, closed, lower_box, upper_box, middle, extent_box, holds_box, offer_box, halvings_box}
+use Rattle.intervals.specs.declared.interval_box.Span.{Span}
+use Rattle.intervals.specs.Boxes.{low_at, widths_of, greatest, at_most}
+use Rattle.intervals.specs.Answers.{start_box, clipped, limited, limit_box, closed, lower_box, upper_box, middle, extent_box, holds_box, all_lows, offer_box, halvings_box}
 use Rattle.intervals.specs.Model.{box_model}
 use Rattle.intervals.specs.Cutting.{cut_cuts}
 use Rattle.intervals.specs.Extents.{void_says, closed_says, Lonely, lone_says, Opened, open_says}
 use Rattle.intervals.specs.Holding.{In, coord, holds_decides}
 use Rattle.intervals.specs.Limits.{off_limited, opposite_limited, void_limited, limit_is_within, limit_is_even, sum_below, lone_sum}
-use Rattle.intervals.specs.Sound.{Sound, start_sound, front_before}
+use Rattle.intervals.specs.Sound.{Sound, start_sound, span_before}
 use Rattle.intervals.specs.Splitting.{lower_restricts, upper_restricts, lower_lowers, upper_lowers, holds_not, split_counts}
 use Rattle.intervals.specs.Widths.{length_widths, width_at, halvings_full}
 
@@ -46,36 +48,47 @@ made_sound (Made.by_cut {s} m t) = (cut_cuts s (made_sound m) t).sound
 made_sound (Made.by_lower {s} m) = let sd = made_sound m in lower_cases s Sound sd (λ o. (lower_restricts s sd (open_says s sd o)).sound)
 made_sound (Made.by_upper {s} m) = let sd = made_sound m in upper_cases s Sound sd (λ o. (upper_restricts s sd (open_says s sd o)).sound)
 
+abbrev Within : ℤ → Span → Type 0
+Within z r = (r.low ≤ℤ z) × (z ≤ℤ r.high)
+
 -- a home's points are those of the box that starts from it
 start_in : (h : Home) → Passes h → (x : List ℤ) → (In (start_box h) x → InHome h x) × (InHome h x → In (start_box h) x)
 start_in h ok x =
     let most = (passed_n h ok).1 in (
-      (λ i. (i.sized, λ k l. (subst (λ z. z ≤ℤ coord x k) (front_before h.n h.lows k most l) (i.inside k l).0, subst (λ z. coord x k ≤ℤ z) (front_before h.n h.highs k most l) (i.inside k l).1))),
-      (λ i. record { full = refl; sized = i.0; inside = λ k l. (subst (λ z. z ≤ℤ coord x k) (sym (front_before h.n h.lows k most l)) (i.1 k l).0, subst (λ z. coord x k ≤ℤ z) (sym (front_before h.n h.highs k most l)) (i.1 k l).1) }),
+      (λ i. (i.sized, λ k l. subst (Within (coord x k)) (span_before h k most l) (i.inside k l))),
+      (λ i. record { full = refl; sized = i.0; inside = λ k l. subst (Within (coord x k)) (sym (span_before h k most l)) (i.1 k l) }),
     )
 
+low_is : (s : IntervalBox) → Sound s → (k : ℕ) → k < s.n → coord (take s.n (all_lows s)) k ≡ low_at s k
+unfolding all_lows
+low_is s sd k l = get_or-take s.n (all_lows s) k (pos 0) l ∙ get_or-map-range_with_len (low_at s) 0 8 k k (pos 0) (omega (arith, sd.most)) (omega arith)
+
+length_lows : (s : IntervalBox) → length (all_lows s) ≡ 8
+unfolding all_lows
+length_lows s = length-map-range_with_len (low_at s) 0 8
+
 -- a full box holds the point of all lows
-lows_in : (s : IntervalBox) → Sound s → s.void ≡ false → In s (take s.n s.lows)
+lows_in : (s : IntervalBox) → Sound s → s.void ≡ false → In s (take s.n (all_lows s))
 lows_in s sd e = record {
   full = e;
-  sized = length-take-le s.n s.lows (omega (arith, sd.most, sd.lows_are));
-  inside = λ k l. let same = get_or-take s.n s.lows k (pos 0) l in (omega (arith, ints, same), omega (arith, ints, same, (sd.good k).ordered));
+  sized = length-take-le s.n (all_lows s) (omega (arith, sd.most, length_lows s));
+  inside = λ k l. let same = low_is s sd k l in (omega (arith, ints, same), omega (arith, ints, same, (sd.good k).ordered));
 }
 
-lone_one : (s : IntervalBox) → Sound s → Lonely s → (y : List ℤ) → In s y → y ≡ take s.n s.lows
+lone_one : (s : IntervalBox) → Sound s → Lonely s → (y : List ℤ) → In s y → y ≡ take s.n (all_lows s)
 lone_one s sd o y i =
     let l = lows_in s sd o.full in
-    ext_get_or (pos 0) y (take s.n s.lows) (i.sized ∙ sym l.sized) (λ k h. let k<n : k < s.n = omega (arith, i.sized) in let a = i.inside k k<n in let same = get_or-take s.n s.lows k (pos 0) k<n in omega (arith, ints, a, same, o.level k))
+    ext_get_or (pos 0) y (take s.n (all_lows s)) (i.sized ∙ sym l.sized) (λ k h. let k<n : k < s.n = omega (arith, i.sized) in let a = i.inside k k<n in let same = low_is s sd k k<n in omega (arith, ints, a, same, o.level k))
 
 offer_in : (s : IntervalBox) → Sound s → (x : Point) → offer_box s ≡ Some x → In s (values_of x)
 offer_in s sd x e = by s.void refl e
   where
-    by : (v : Bool) → s.void ≡ v → cond v None (Some (record { n = s.n; values = s.lows })) ≡ Some x → In s (values_of x)
+    by : (v : Bool) → s.void ≡ v → cond v None (Some (record { n = s.n; values = all_lows s })) ≡ Some x → In s (values_of x)
     by true f g = cc
-    by false f g = let same : record { n = s.n; values = s.lows } ≡ x = cc in subst (λ y. In s (values_of y)) same (lows_in s sd f)
+    by false f g = let same : record { n = s.n; values = all_lows s } ≡ x = cc in subst (λ y. In s (values_of y)) same (lows_in s sd f)
 
 offer_some : (s : IntervalBox) → s.void ≡ false → is_some (offer_box s) ≡ true
-offer_some s e = subst (λ v. is_some {T = Point} (cond v None (Some (record { n = s.n; values = s.lows }))) ≡ true) (sym e) refl
+offer_some s e = subst (λ v. is_some {T = Point} (cond v None (Some (record { n = s.n; values = all_lows s }))) ≡ true) (sym e) refl
 
 open_some : (s : IntervalBox) → Opened s → 1 ≤ halvings_box s
 open_some s o =
@@ -91,7 +104,7 @@ box_laws = record {
   cut_keeps = λ s m t x e met. (holds_decides (box_model.cut s t) x).1 ((cut_cuts s (made_sound m) t).keeps x ((holds_decides s x).0 e) met);
   cut_adds_none = λ s m t x e. (holds_decides s x).1 ((cut_cuts s (made_sound m) t).adds_none x ((holds_decides (box_model.cut s t) x).0 e));
   void_holds = λ s m v x. holds_not s x (λ i. both_ways s.void i.full (void_says s v));
-  lone_holds = λ s m l. (take s.n s.lows, (holds_decides s (take s.n s.lows)).1 (lows_in s (made_sound m) (lone_says s (made_sound m) l).full), λ y e. lone_one s (made_sound m) (lone_says s (made_sound m) l) y ((holds_decides s y).0 e));
+  lone_holds = λ s m l. (take s.n (all_lows s), (holds_decides s (take s.n (all_lows s))).1 (lows_in s (made_sound m) (lone_says s (made_sound m) l).full), λ y e. lone_one s (made_sound m) (lone_says s (made_sound m) l) y ((holds_decides s y).0 e));
   limit_above = λ s m x e p q on-p on-q. sum_below s (made_sound m) x ((holds_decides s x).0 e) p q on-p on-q;
   limit_within = λ s m p q. limit_is_within s (made_sound m) p q;
   limit_even = λ s m p. limit_is_even s (made_sound m) p;

@@ -3,12 +3,18 @@ mod bound;
 mod range;
 pub mod shape;
 
-// The first `n` lows and highs count, and those past them are 0 in every box that is made. A void box holds no point,
-// and its ranges are all 0.
+// From where to where a setting may go.
+#[derive(Clone, Copy)]
+struct Span {
+    low: i32,
+    high: i32,
+}
+
+// The first `n` spans count, and those past them are 0 in every box that is made. A void box holds no point, and its
+// spans are all 0: they stand beside the flag and not in an `Option`, since a void box answers for its ranges too.
 #[derive(Clone, Copy)]
 pub struct IntervalBox {
     n: u8,
     void: bool,
-    lows: [i32; 8],
-    highs: [i32; 8],
+    spans: [Span; 8],
 }

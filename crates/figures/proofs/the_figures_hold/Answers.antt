@@ -1,5 +1,5 @@
 use Rattle.std.proofs.Common.{refl}
-use Rattle.intervals.specs.Answers.{front}
+use Rattle.intervals.specs.Answers.{home_spans}
 use Rattle.intervals.specs.Boxes.{bounded}
 use Rattle.octagon_theory.specs.Limits.{top_of, home_entry, entry, least_upto, void, limit}
 use Rattle.rule_base.specs.Bounds.{cut_at}
@@ -10,7 +10,7 @@ use Rattle.figures.proofs.Halvings.{three_values, widest_range}
 use Rattle.figures.proofs.the_figures_hold.Goals as goal
 
 pub returns : goal.returns
-unfolding limit void least_upto entry home_entry top_of front bounded cut_at rest times
+unfolding limit void least_upto entry home_entry top_of home_spans bounded cut_at rest times
 returns c = record {
   three_values = three_values;
   widest_range = widest_range;

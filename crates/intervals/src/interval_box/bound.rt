@@ -2,7 +2,7 @@
 ghost use Rattle.std.specs.Prelude.{◌≡◌, ◌^◌, pos, neg_ℤ, ◌≤ℤ◌, ◌<ℤ◌};
 ghost use Rattle.intervals.specs.Boxes.{voided, with_range, narrowed, at_most, at_least, bounded};
 
-use super::IntervalBox;
+use super::{IntervalBox, Span};
 
 impl IntervalBox {
     // The one void box of as many settings.
@@ -12,18 +12,17 @@ impl IntervalBox {
         IntervalBox {
             n: self.n,
             void: true,
-            lows: [0; 8],
-            highs: [0; 8],
+            spans: [Span { low: 0, high: 0 }; 8],
         }
     }
 
+    // With another span of setting k; past the end there is none. By index: after `get_mut` a proof knows no element.
     fn ranged(&self, k: u8, low: i32, high: i32) -> IntervalBox
         ensures { result ≡ with_range self.now k low high }
     {
         let mut s = *self;
         if k < 8 {
-            s.lows[k as usize] = low;
-            s.highs[k as usize] = high;
+            s.spans[k as usize] = Span { low, high };
         }
         s
     }
@@ -42,6 +41,7 @@ impl IntervalBox {
         }
     }
 
+    // A bound from above and one from below are each a call of `narrowed`; one function for both would need a flag.
     // Without the values of setting k above b.
     pub(crate) fn at_most(&self, k: u8, b: i64) -> IntervalBox
         ensures { result ≡ at_most self.now k b }

@@ -4,7 +4,7 @@ ghost use Rattle.interface.specs.Points.{values_of};
 ghost use Rattle.halving.specs.First.{every};
 ghost use Rattle.halving.specs.Halvings.{width};
 ghost use Rattle.intervals.specs.Boxes.{low_at, high_at, least, greatest, widths_of, on_line};
-ghost use Rattle.intervals.specs.Answers.{in_range};
+ghost use Rattle.intervals.specs.Answers.{all_lows, in_range};
 
 use super::IntervalBox;
 use interface::node::opposite;
@@ -15,13 +15,19 @@ impl IntervalBox {
     pub(crate) fn low(&self, k: u8) -> i32
         ensures { result ≡ low_at self.now k }
     {
-        self.lows.get(k as usize).copied().unwrap_or(0)
+        self.spans.get(k as usize).map_or(0, |span| span.low)
     }
 
     pub(crate) fn high(&self, k: u8) -> i32
         ensures { result ≡ high_at self.now k }
     {
-        self.highs.get(k as usize).copied().unwrap_or(0)
+        self.spans.get(k as usize).map_or(0, |span| span.high)
+    }
+
+    pub(crate) fn lows(&self) -> [i32; 8]
+        ensures { result ≡ all_lows self.now }
+    {
+        array::from_fn(|k| self.low(k as u8))
     }
 
     // The least v(p).

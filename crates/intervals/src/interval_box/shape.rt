@@ -2,11 +2,11 @@
 ghost use Rattle.std.specs.Prelude.{◌≡◌, ◌^◌, ◌<◌, ◌||◌, pos, ◌-ℤ◌, neg_ℤ, ◌≤ℤ◌};
 ghost use Rattle.interface.specs.Points.{values_of};
 ghost use Rattle.intervals.specs.Boxes.{least, bounded};
-ghost use Rattle.intervals.specs.Answers.{front, start_box, cut_box, closed, middle, limited, lower_box, upper_box, extent_box, limit_box, holds_box, offer_box, halvings_box};
+ghost use Rattle.intervals.specs.Answers.{home_spans, start_box, cut_box, closed, middle, limited, lower_box, upper_box, extent_box, limit_box, holds_box, offer_box, halvings_box};
 ghost use Rattle.intervals.specs.Model.{box_model};
 ghost use Rattle.intervals.specs.Laws.{box_laws};
 
-use super::IntervalBox;
+use super::{IntervalBox, Span};
 use halving::{halvings, single, widest};
 use interface::cut::Cut;
 use interface::extent::Extent;
@@ -16,11 +16,18 @@ use interface::point::Point;
 use interface::shape::Shape;
 use std::array;
 
-// The first n values, and 0 past them.
-fn front_of(values: &[i32; 8], n: u8) -> [i32; 8]
-    ensures { result ≡ front n values.now }
+// The home's spans, and 0 past its settings.
+fn spans_of(home: &Home) -> [Span; 8]
+    ensures { result ≡ home_spans home.now }
 {
-    array::from_fn(|k| if k < n as usize { values[k] } else { 0 })
+    array::from_fn(|k| if k < home.n as usize {
+        Span {
+            low: home.lows[k],
+            high: home.highs[k],
+        }
+    } else {
+        Span { low: 0, high: 0 }
+    })
 }
 
 impl IntervalBox {
@@ -84,8 +91,7 @@ impl Shape for IntervalBox {
         IntervalBox {
             n: home.n,
             void: false,
-            lows: front_of(&home.lows, home.n),
-            highs: front_of(&home.highs, home.n),
+            spans: spans_of(home),
         }
     }
 
@@ -145,7 +151,7 @@ impl Shape for IntervalBox {
     {
         (!self.void).then(|| Point {
             n: self.n,
-            values: self.lows,
+            values: self.lows(),
         })
     }
 
