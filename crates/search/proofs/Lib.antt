@@ -1,6 +1,7 @@
 pub mod Budgets
+pub mod Extents
 pub mod Items
-pub mod Limits
 pub mod Meanings
+pub mod Phases
 pub mod Rounds
 pub mod Verdicts

@@ -1,4 +1,9 @@
 // The slices that a caller lends to a call.
+ghost use Rattle.std.specs.Prelude.{◌≡◌, [], ◌∷◌, length, nat_lt};
+ghost use Rattle.interface.specs.Grounds.{first_fault};
+ghost use Rattle.interface.specs.declared.fault.SolverFault.TheVariants.{Short};
+
+use interface::fault::SolverFault;
 use search_theory::checkpoint::Checkpoint;
 use search_theory::region::Region;
 
@@ -9,4 +14,14 @@ pub struct Lent<'a, S, R> {
     pub checkpoints: &'a mut [Checkpoint<S>],
     pub stack: &'a mut [S],
     pub out: &'a mut [Region<S>],
+}
+
+// Refused where a lent slice is shorter than what it holds.
+pub(crate) fn long_enough<T>(slice: &[T], held: usize) -> Result<(), SolverFault>
+    ensures { result ≡ first_fault ((nat_lt (length slice.now) held, Short) ∷ []) }
+{
+    if slice.len() < held {
+        return Err(SolverFault::Short);
+    }
+    Ok(())
 }

@@ -2,10 +2,8 @@
 #![tactic(auto)]
 
 pub mod classify;
-mod extents;
 pub mod lent;
 mod readings;
 pub mod refine;
-mod slot;
 pub mod solver;
 mod steps;

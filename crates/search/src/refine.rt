@@ -1,10 +1,10 @@
 // How a region is narrowed: by rounds of the cuts that the rules propose.
 ghost use Rattle.std.specs.Prelude.{◌≡◌, true};
-ghost use Rattle.search_theory.specs.Regions.{is_open, cut_if_any, tighten, refine, read};
+ghost use Rattle.search_theory.specs.Regions.{is_open, tighten, refine, read};
 ghost use Rattle.search_theory.specs.RegionLaws.{Refined};
 
-use super::extents::open;
-use super::readings::{same_limits, take_reading};
+use super::readings::take_reading;
+use interface::extent::Extent;
 use interface::reading::Reading;
 use interface::rule::Rule;
 use interface::shape::Shape;
@@ -21,8 +21,11 @@ fn apply<S: Shape, R: Rule>(rule: &R, i: u8, shape: &mut S, reading: &mut Readin
     }
 }
 
-fn rounds<S: Shape, R: Rule>(rules: &[R], shape: S) -> S
-    ensures { result ≡ refine S.model R.model rules.now shape }
+// Up to eight rounds over the rules and their three cuts, until one alters no limit or the region is no longer open:
+// every held point that meets the rules stays, and none is added.
+pub fn refine<S: Shape, R: Rule>(rules: &[R], shape: S) -> S
+    ensures value { result ≡ refine S.model R.model rules.now shape }
+    ensures narrows { Refined S.model R.model rules.now shape result }
 {
     let mut region = shape;
     let mut reading = take_reading(&region);
@@ -30,24 +33,15 @@ fn rounds<S: Shape, R: Rule>(rules: &[R], shape: S) -> S
         let before = reading;
         'rules: for rule in rules {
             'cuts: for i in 0..3u8 {
-                if !open(&region) {
+                if region.extent() != Extent::Open {
                     break 'rounds;
                 }
                 apply(rule, i, &mut region, &mut reading);
             }
         }
-        if same_limits(&before, &reading) {
+        if before.limits == reading.limits {
             break 'rounds;
         }
     }
     region
-}
-
-// Up to eight rounds over the rules and their three cuts, until one alters no limit or the region is no longer open:
-// every held point that meets the rules stays, and none is added.
-pub fn refine<S: Shape, R: Rule>(rules: &[R], shape: S) -> S
-    ensures value { result ≡ refine S.model R.model rules.now shape }
-    ensures narrows { Refined S.model R.model rules.now shape result }
-{
-    rounds(rules, shape)
 }

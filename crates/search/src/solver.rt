@@ -1,11 +1,12 @@
 // The solver's state, and the calls that open it, mark and take back, begin and leave a search.
-ghost use Rattle.std.specs.Prelude.{◌≡◌};
+ghost use Rattle.std.specs.Prelude.{◌≡◌, [], ◌∷◌, not};
+ghost use Rattle.interface.specs.Grounds.{first_fault};
 ghost use Rattle.search_theory.specs.Calls.{mark_call, back_call, keep_call, begin_call, leave_call};
-ghost use Rattle.search_theory.specs.Solving.{left, open_call, is_stating};
+ghost use Rattle.search_theory.specs.Solving.{left, open_call};
 ghost use Rattle.search.specs.Meanings.{Opens};
-ghost use Rattle.search.specs.Views.{view, view_if_any};
+ghost use Rattle.search.specs.Views.{at_phase, view, view_if_any};
 
-use super::slot::item;
+use super::lent::long_enough;
 use interface::fault::SolverFault;
 use interface::home::Home;
 use interface::shape::Shape;
@@ -29,18 +30,11 @@ pub struct Solver<S> {
     found: bool,
 }
 
-fn stating(phase: Phase) -> bool
-    ensures { result ≡ is_stating phase }
-{
-    match phase {
-        Phase::Stating => true,
-        Phase::Searching => false,
-    }
-}
-
 impl<S: Shape> Solver<S> {
-    fn open_any(home: &Home) -> Result<Solver<S>, SolverFault>
-        ensures { view_if_any result ≡ open_call S.model home.now }
+    // A solver on the shape of a home, which holds exactly the home's points, with no rule; refused with the home's own fault.
+    pub fn open(home: &Home) -> Result<Solver<S>, SolverFault>
+        ensures answers { view_if_any result ≡ open_call S.model home.now }
+        ensures opens { Opens S.model home.now (view_if_any result) }
     {
         home.check()?;
         Ok(Solver {
@@ -53,24 +47,22 @@ impl<S: Shape> Solver<S> {
         })
     }
 
-    // A solver on the shape of a home, which holds exactly the home's points, with no rule; refused with the home's own fault.
-    pub fn open(home: &Home) -> Result<Solver<S>, SolverFault>
-        ensures answers { view_if_any result ≡ open_call S.model home.now }
-        ensures opens { Opens S.model home.now (view_if_any result) }
+    // Refused in the other phase.
+    fn at(&self, phase: Phase) -> Result<(), SolverFault>
+        ensures { result ≡ first_fault ((not (at_phase phase self.now.phase), SolverFault.Phase) ∷ []) }
     {
-        Solver::open_any(home)
+        if self.phase != phase {
+            return Err(SolverFault::Phase);
+        }
+        Ok(())
     }
 
     // Puts a checkpoint of the shape and the count of rules after the others, of which there are at most 4.
     pub fn mark(&mut self, checkpoints: &mut [Checkpoint<S>]) -> Result<(), SolverFault>
         ensures { left result (view self.new) checkpoints.new ≡ mark_call (view self.old) checkpoints.old }
     {
-        if !stating(self.phase) {
-            return Err(SolverFault::Phase);
-        }
-        if checkpoints.len() < self.marks {
-            return Err(SolverFault::Short);
-        }
+        self.at(Phase::Stating)?;
+        long_enough(checkpoints, self.marks)?;
         if self.marks >= 4 || checkpoints.len() == self.marks {
             return Err(SolverFault::Marks);
         }
@@ -86,13 +78,8 @@ impl<S: Shape> Solver<S> {
     pub fn keep(&mut self) -> Result<(), SolverFault>
         ensures { left result (view self.new) tt ≡ keep_call (view self.old) }
     {
-        if !stating(self.phase) {
-            return Err(SolverFault::Phase);
-        }
-        if self.marks == 0 {
-            return Err(SolverFault::Unmarked);
-        }
-        self.marks -= 1;
+        self.at(Phase::Stating)?;
+        self.marks = self.marks.checked_sub(1).ok_or(SolverFault::Unmarked)?;
         Ok(())
     }
 
@@ -100,19 +87,13 @@ impl<S: Shape> Solver<S> {
     pub fn back(&mut self, checkpoints: &[Checkpoint<S>]) -> Result<(), SolverFault>
         ensures { left result (view self.new) tt ≡ back_call (view self.old) checkpoints.now }
     {
-        if !stating(self.phase) {
-            return Err(SolverFault::Phase);
-        }
-        if checkpoints.len() < self.marks {
-            return Err(SolverFault::Short);
-        }
-        if self.marks == 0 {
-            return Err(SolverFault::Unmarked);
-        }
-        let last = item(checkpoints, self.marks - 1);
+        self.at(Phase::Stating)?;
+        long_enough(checkpoints, self.marks)?;
+        let marks = self.marks.checked_sub(1).ok_or(SolverFault::Unmarked)?;
+        let last = checkpoints[marks];
         self.shape = last.shape;
         self.rules = last.rules;
-        self.marks -= 1;
+        self.marks = marks;
         Ok(())
     }
 
@@ -120,10 +101,8 @@ impl<S: Shape> Solver<S> {
     pub fn begin(&mut self, stack: &mut [S]) -> Result<(), SolverFault>
         ensures { left result (view self.new) stack.new ≡ begin_call (view self.old) stack.old }
     {
-        if !stating(self.phase) {
-            return Err(SolverFault::Phase);
-        }
-        if stack.len() == 0 {
+        self.at(Phase::Stating)?;
+        if stack.is_empty() {
             return Err(SolverFault::Stack);
         }
         stack[0] = self.shape;
@@ -137,9 +116,7 @@ impl<S: Shape> Solver<S> {
     pub fn leave(&mut self) -> Result<(), SolverFault>
         ensures { left result (view self.new) tt ≡ leave_call (view self.old) }
     {
-        if stating(self.phase) {
-            return Err(SolverFault::Phase);
-        }
+        self.at(Phase::Searching)?;
         self.waiting = 0;
         self.phase = Phase::Stating;
         Ok(())

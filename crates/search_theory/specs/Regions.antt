@@ -1,6 +1,8 @@
 -- What becomes of one region: it is refined by rounds of cuts, then dropped, handed out or split. Assumes nothing.
-use Rattle.std.specs.Prelude.{ℕ, zero, suc, Bool, true, false, cond, ◌&&◌, List, [], ◌∷◌, ℤ, Some, None, Option, int_le}
+use Rattle.std.specs.Prelude.{ℕ, zero, suc, Bool, true, false, cond, List, [], ◌∷◌, ℤ, Some, None, Option}
+use Rattle.std.specs.Cmp.Lexicographic.{pointwise}
 use Rattle.std.specs.List.{range_with_len}
+use Rattle.std.specs.Ordering.{int_eq}
 use Rattle.interface.specs.declared.cut.Cut.{Cut}
 use Rattle.interface.specs.declared.extent.Extent.{Extent}
 use Rattle.interface.specs.declared.extent.Extent.TheVariants.{Void, Lone, Open}
@@ -25,13 +27,10 @@ is_void Lone = false
 is_void Open = false
 
 abbrev pub same_number : ℤ → ℤ → Bool
-same_number a b = int_le a b && int_le b a
+same_number = int_eq
 
 abbrev pub same_numbers : List ℤ → List ℤ → Bool
-same_numbers [] [] = true
-same_numbers [] (b ∷ bs) = false
-same_numbers (a ∷ more) [] = false
-same_numbers (a ∷ more) (b ∷ bs) = same_number a b && same_numbers more bs
+same_numbers = pointwise same_number
 
 -- two readings have the same limits
 abbrev pub same_limits : Reading → Reading → Bool

@@ -18,21 +18,22 @@ impl<S: Shape> Solver<S> {
         ensures same_slices { SameSlices lent.old lent.new }
     {
         match request {
-            Request::State(rule) => plain(self.state_any(lent.rules, rule)),
-            Request::Mark => plain(self.mark(lent.checkpoints)),
+            Request::State(rule) => self.state(lent.rules, rule)?,
+            Request::Mark => self.mark(lent.checkpoints)?,
             Request::Back => {
                 let checkpoints = &mut *lent.checkpoints;
-                plain(self.back(checkpoints))
+                self.back(checkpoints)?;
             }
-            Request::Keep => plain(self.keep()),
-            Request::Begin => plain(self.begin(lent.stack)),
+            Request::Keep => self.keep()?,
+            Request::Begin => self.begin(lent.stack)?,
             Request::Run(budget) => {
                 let rules = &mut *lent.rules;
-                Ok(Reply::Ran(self.run_any(rules, lent.stack, lent.out, budget)?))
+                return Ok(Reply::Ran(self.run(rules, lent.stack, lent.out, budget)?));
             }
-            Request::Leave => plain(self.leave()),
-            Request::Limit(p, q) => Ok(Reply::LimitIs(self.limit_any(p, q)?)),
+            Request::Leave => self.leave()?,
+            Request::Limit(p, q) => return Ok(Reply::LimitIs(self.limit(p, q)?)),
         }
+        Ok(Reply::Accepted)
     }
 
     // Does what the request says, on the lent slices, which stay lent.
@@ -42,14 +43,5 @@ impl<S: Shape> Solver<S> {
         ensures same_slices { SameSlices lent.old lent.new }
     {
         self.call_any(lent, request)
-    }
-}
-
-fn plain(r: Result<(), SolverFault>) -> Result<Reply, SolverFault>
-    ensures { result ≡ replied accepted r }
-{
-    match r {
-        Ok(()) => Ok(Reply::Accepted),
-        Err(fault) => Err(fault),
     }
 }

@@ -5,14 +5,16 @@ ghost use Rattle.search.specs.Meanings.{LimitBounds};
 ghost use Rattle.search.specs.Views.{view};
 
 use super::Solver;
-use crate::extents::void;
+use interface::extent::Extent;
 use interface::fault::{RecordFault, SolverFault};
 use interface::node::opposite;
 use interface::shape::Shape;
 
 impl<S: Shape> Solver<S> {
-    pub(super) fn limit_any(&self, p: u8, q: u8) -> Result<i32, SolverFault>
-        ensures { result ≡ limit_call S.model (view self.now) p q }
+    // The limit of the solver's own shape at two nodes on the line that are not opposite: no held point is above it.
+    pub fn limit(&self, p: u8, q: u8) -> Result<i32, SolverFault>
+        ensures answers { result ≡ limit_call S.model (view self.now) p q }
+        ensures bounds { LimitBounds S.model (view self.now) p q result }
     {
         let nodes = 2 * self.shape.n() as usize;
         if p as usize >= nodes {
@@ -24,17 +26,9 @@ impl<S: Shape> Solver<S> {
         if q == opposite(p) {
             return Err(SolverFault::Record(RecordFault::Clash(3)));
         }
-        if void(&self.shape) {
+        if self.shape.extent() == Extent::Void {
             return Err(SolverFault::Void);
         }
         Ok(self.shape.limit(p, q))
-    }
-
-    // The limit of the solver's own shape at two nodes on the line that are not opposite: no held point is above it.
-    pub fn limit(&self, p: u8, q: u8) -> Result<i32, SolverFault>
-        ensures answers { result ≡ limit_call S.model (view self.now) p q }
-        ensures bounds { LimitBounds S.model (view self.now) p q result }
-    {
-        self.limit_any(p, q)
     }
 }

@@ -1,7 +1,7 @@
 use Rattle.std.proofs.Common.{◌≡◌, ◌-◌, drop}
 use Rattle.std.specs.List.{range_with_len}
 use Rattle.search_theory.specs.Regions.{read, by_cuts, by_rules, by_rounds, refine}
-use Rattle.search.proofs.refine.rounds.Given as goal
+use Rattle.search.proofs.refine.refine.Given as goal
 
 -- the cuts that are left give what all three give
 abbrev pub invariant-cuts : goal.invariant-cuts
