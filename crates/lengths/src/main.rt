@@ -17,10 +17,10 @@ fn answer(rt: &HostRuntime, output: &mut [u8], budget: u32) -> io::Result<()> {
 
 fn answer_at(rt: &HostRuntime, size: usize, budget: u32) -> io::Result<()> {
     let mut output = [46u8; 30127];
-    if size > 30127 {
-        return Ok(());
+    match output.get_mut(..size) {
+        Some(output) => answer(rt, output, budget),
+        None => Ok(()),
     }
-    answer(rt, &mut output[0..size], budget)
 }
 
 fn main(rt: HostRuntime) -> io::Result<()> {

@@ -27,10 +27,10 @@ fn draw_home(seed: &mut u64) -> Home {
         lows: [0; 8],
         highs: [0; 8],
     };
-    for k in 0..3usize {
-        let low = draw(seed, 9) as i32 - 4;
-        home.lows[k] = low;
-        home.highs[k] = low + draw(seed, 5) as i32;
+    for (low, high) in home.lows.iter_mut().zip(&mut home.highs).take(3) {
+        let drawn = draw(seed, 9) as i32 - 4;
+        *low = drawn;
+        *high = drawn + draw(seed, 5) as i32;
     }
     home
 }
@@ -46,7 +46,7 @@ fn draw_cut(seed: &mut u64, n: u8, size: u32) -> Option<Cut>
 }
 
 fn show(rt: &HostRuntime, o: &Octagon) -> io::Result<()> {
-    let extent = o.extent().number();
+    let extent = u8::from(o.extent());
     let halvings = o.halvings();
     print!(rt; "{extent} {halvings}")?;
     for p in 0..6u8 {
@@ -56,8 +56,7 @@ fn show(rt: &HostRuntime, o: &Octagon) -> io::Result<()> {
         }
     }
     if let Some(x) = o.offer() {
-        for k in 0..3usize {
-            let v = x.values[k];
+        for v in x.values.iter().take(3) {
             print!(rt; " {v}")?;
         }
     }

@@ -52,13 +52,12 @@ fn rules() -> [AnyRule; 3] {
 fn print_region(rt: &HostRuntime, region: &Region<IntervalBox>) -> io::Result<()> {
     let (low, high) = region.shape.range(0);
     let (low_1, high_1) = region.shape.range(1);
-    let a = region.point.values[0];
-    let b = region.point.values[1];
+    let [a, b, ..] = region.point.values;
     println!(rt; "  {low} to {high}, {low_1} to {high_1}; point {a} {b}")
 }
 
 fn print_run(rt: &HostRuntime, report: Report, out: &[Region<IntervalBox>]) -> io::Result<()> {
-    let outcome = report.outcome.number();
+    let outcome = u8::from(report.outcome);
     let steps = report.steps;
     let found = report.found;
     println!(rt; "outcome {outcome} after {steps} steps, found {found}")?;
@@ -103,21 +102,14 @@ fn search(rt: &HostRuntime, places: usize, list: usize, budget: u32) -> io::Resu
     let mut stated = rules();
     let mut stack = [shape; 12];
     let mut regions = [Region { shape, point }; 12];
-    if places > 12 || list > 12 {
+    let (Some(stack), Some(out)) = (stack.get_mut(..places), regions.get_mut(..list)) else {
         return Ok(());
-    }
+    };
     let Ok(mut solver) = Solver::<IntervalBox>::open(&home()) else {
         return Ok(());
     };
     state_rules(&mut solver, &mut stated);
-    run_five(
-        rt,
-        &mut solver,
-        &stated,
-        &mut stack[0..places],
-        &mut regions[0..list],
-        budget,
-    )
+    run_five(rt, &mut solver, &stated, stack, out, budget)
 }
 
 fn main(rt: HostRuntime) -> io::Result<()> {

@@ -7,10 +7,10 @@ use std::io::{Read, Write};
 use wire::bytes::byte_at;
 
 fn answer(rt: &HostRuntime, line: &[u8]) -> io::Result<()> {
-    let mut text = Vec::new(rt.alloc());
-    for i in 0..line.len() / 2 {
-        text.push(byte_at(line, i))?;
-    }
+    let text: Vec<u8> = line
+        .chunks_exact(2)
+        .map(|digits| byte_at(digits, 0))
+        .collect(rt.alloc())?;
     let mut output = [0u8; 30127];
     let count = offsets_solve(text.as_slice(), 10_000, &mut output);
     rt.stdout().write_all(&output[0..count])
@@ -19,12 +19,10 @@ fn answer(rt: &HostRuntime, line: &[u8]) -> io::Result<()> {
 fn main(rt: HostRuntime) -> io::Result<()> {
     let mut input = Vec::new(rt.alloc());
     rt.stdin().read_to_end(&mut input)?;
-    let lines = input.as_slice();
-    let mut start = 0;
-    for i in 0..lines.len() {
-        if lines[i] == b'\n' {
-            answer(&rt, &lines[start..i])?;
-            start = i + 1;
+    for line in input.split_inclusive(|b| *b == b'\n') {
+        // what stands after the last line feed is no text
+        if let [text @ .., b'\n'] = line {
+            answer(&rt, text)?;
         }
     }
     Ok(())

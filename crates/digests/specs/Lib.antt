@@ -1,0 +1,2 @@
+pub mod AnswerLists
+pub mod Digests
