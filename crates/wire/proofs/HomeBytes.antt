@@ -5,7 +5,7 @@ use Rattle.std.proofs.lemmas.List.FromFn.{fill_by_all, get_or-map-range_with_len
 use Rattle.std.proofs.lemmas.Bool.{cond-true, cond-false, cases_lt, lt-ltb, le-ltb, eq-eqb, ne_eqb}
 use Rattle.interface.specs.declared.home.Home.{Home}
 use Rattle.interface.specs.Homes.{low_of, high_of}
-use Rattle.wire.specs.HomeFrame.{range_byte, home_byte, home_words, write_home}
+use Rattle.wire.specs.HomeFrame.{range_byte, home_byte, home_word, home_words, write_home}
 use Rattle.wire.specs.Words.{word_byte, words_byte, words_frame_byte}
 
 -- behind the first two bytes
@@ -13,13 +13,10 @@ past : (j code n x : ℕ) → 2 ≤ j → cond (eqb j 0) code (cond (eqb j 1) n 
 past j code n x h = cond-false (eqb j 0) code (cond (eqb j 1) n x) (ne_eqb j 0 (λ e. omega arith)) ∙ cond-false (eqb j 1) n x (ne_eqb j 1 (λ e. omega arith))
 
 module _ (h : Home) where
-  abbrev side : ℕ → ℤ
-  side k = cond (eqb (k % 2) 0) (low_of h (k / 2)) (high_of h (k / 2))
-
   range_at : (m : ℕ) → m < 64 → words_byte (home_words h) m ≡ range_byte h m
-  range_at m below = ap (λ z. word_byte z (m % 4)) (get_or-map-range_with_len side 0 16 (m / 4) (m / 4) (pos 0) (omega arith) (omega arith)) ∙ way (cases_lt (m % 8) 4)
+  range_at m below = ap (λ z. word_byte z (m % 4)) (get_or-map-range_with_len (home_word h) 0 16 (m / 4) (m / 4) (pos 0) (omega arith) (omega arith)) ∙ way (cases_lt (m % 8) 4)
     where
-      way : (m % 8 < 4) ⊎ (4 ≤ m % 8) → word_byte (side (m / 4)) (m % 4) ≡ range_byte h m
+      way : (m % 8 < 4) ⊎ (4 ≤ m % 8) → word_byte (home_word h (m / 4)) (m % 4) ≡ range_byte h m
       way (inl lt) =
           let k : m / 4 / 2 ≡ m / 8 = omega arith in
           let r : m % 4 ≡ m % 8 = omega arith in

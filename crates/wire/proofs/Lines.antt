@@ -1,7 +1,8 @@
 -- The grounds of a line one after another: where one is reached, none before it holds. Assumes nothing.
 use Rattle.std.proofs.Common.{◌≡◌, ℕ, zero, suc, ◌+◌, ◌-◌, ◌%◌, ◌<◌, ◌≤◌, Bool, true, false, cond, not, ◌||◌, eqb, ltb, ◌⊎◌, List, [], ◌∷◌, length, get_or, take, None, Ok, Err, Result, sym, refl, ap, ◌∙◌, inl, inr, arith}
 use Rattle.std.specs.List.{prefix_len}
-use Rattle.std.proofs.lemmas.List.{drop_all, length-drop, length-take-le}
+use Rattle.std.proofs.lemmas.List.{drop_all, take_all, length-drop, length-take-le}
+use Rattle.std.proofs.lemmas.List.Sums.{prefix_len-le-length}
 use Rattle.std.proofs.lemmas.Bool.Decides.{nat_tests}
 use Rattle.std.proofs.lemmas.Bool.{ltb-true, ltb-false, lt-ltb, cond-true, eqb-true, eqb-false, or_cases, or_parts, not-true, not-false}
 use Rattle.interface.specs.declared.fault.TextFault.{TextFault}
@@ -10,7 +11,7 @@ use Rattle.wire.specs.declared.reader.Reader.{Reader}
 use Rattle.wire.specs.Bytes.{is_digit}
 use Rattle.wire.proofs.Hex.{hex_unhex}
 use Rattle.wire.specs.Readers.{left_of, advanced}
-use Rattle.wire.specs.Text.{place, line_length, first_line, has_feed, line_check, line_answer, next_line, used, count_up, next_number, LineSays, AllDigits}
+use Rattle.wire.specs.Text.{place, no_feed, line_length, first_line, has_feed, line_check, line_answer, next_line, used, count_up, next_number, LineSays, AllDigits}
 
 module _ (p : ℕ → Bool) where
   -- what leads passes, and what stands behind it does not
@@ -94,31 +95,25 @@ module _ (r : Reader) where
       let same : r.line ≡ next_number left r.line = ap (λ l. next_number l r.line) (sym none) in
       λ i. record { text = r.text; pos = stays i; line = same i }
 
-  module _ (end : ℕ) (a : Result (Unit {0}) TextFault) (some : r.pos < length text) (e : end ≡ r.pos + line_length left) (checked : a ≡ line_check (take (end - r.pos) left) (ltb end (length text))) where
-    abbrev part : List ℕ
-    part = take (end - r.pos) left
+  -- the line is the first n bytes of the rest, and its check answers a
+  module _ (rest : List ℕ) (n : ℕ) (a : Result (Unit {0}) TextFault) (some : r.pos < length text) (e : rest ≡ take (length text - r.pos) left) (l : n ≡ line_length rest) (checked : a ≡ line_check (take n rest) (ltb n (length rest))) where
+    all : rest ≡ left
+    all = e ∙ take_all (length text - r.pos) left (omega (arith, length-drop r.pos text))
 
     more : ltb 0 (length left) ≡ true
     more = lt-ltb 0 (length left) (omega (arith, length-drop r.pos text))
 
-    whole : part ≡ first_line left
-    whole =
-        let count : end - r.pos ≡ line_length left = omega arith in
-        ap (λ k. take k left) count
-
-    feed : ltb end (length text) ≡ has_feed left
-    feed = grind (arith, nat_tests, length-drop r.pos text)
-
-    pub line_answered : next_line left ≡ line_answer a part
+    pub line_answered : next_line left ≡ line_answer a (take n rest)
     line_answered =
-        let same : a ≡ line_check (first_line left) (has_feed left) = checked ∙ (λ i. line_check (whole i) (feed i)) in
-        cond-true (ltb 0 (length left)) _ _ more ∙ (λ i. line_answer (sym same i) (sym whole i))
+        let here : a ≡ line_check (first_line rest) (has_feed rest) = checked ∙ (λ i. line_check (take (l i) rest) (ltb (l i) (length rest))) in
+        let answer : next_line left ≡ line_answer (line_check (first_line rest) (has_feed rest)) (first_line rest) = cond-true (ltb 0 (length left)) _ _ more ∙ sym (ap (λ z. line_answer (line_check (first_line z) (has_feed z)) (first_line z)) all) in
+        answer ∙ (λ i. line_answer (sym here i) (take (sym l i) rest))
 
-    pub line_moves : (l p : ℕ) → l ≡ count_up r.line → p ≡ r.pos + used (line_answer a part) → ◌≡◌ {A = Reader} (record { text = r.text; pos = p; line = l }) (advanced r)
-    line_moves l p el ep =
+    pub line_moves : (m p : ℕ) → m ≡ count_up r.line → p ≡ r.pos + used (line_answer a (take n rest)) → ◌≡◌ {A = Reader} (record { text = r.text; pos = p; line = m }) (advanced r)
+    line_moves m p em ep =
         let on : p ≡ r.pos + used (next_line left) = ep ∙ ap (λ x. r.pos + used x) (sym line_answered) in
-        let up : l ≡ next_number left r.line = el ∙ sym (cond-true (ltb 0 (length left)) (count_up r.line) r.line more) in
+        let up : m ≡ next_number left r.line = em ∙ sym (cond-true (ltb 0 (length left)) (count_up r.line) r.line more) in
         λ i. record { text = r.text; pos = on i; line = up i }
 
-    pub part_long : end ≤ length text → length part ≡ end - r.pos
-    part_long h = length-take-le (end - r.pos) left (omega (arith, length-drop r.pos text))
+    pub line_long : length (take n rest) ≡ n
+    line_long = length-take-le n rest (omega (arith, prefix_len-le-length no_feed rest))

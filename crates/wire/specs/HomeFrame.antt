@@ -21,8 +21,11 @@ abbrev pub home_byte : Home → ℕ → ℕ
 home_byte h j = cond (j == 0) 1 (cond (j == 1) h.n (range_byte h (j - 2)))
 
 -- low and high of each setting in turn
+abbrev pub home_word : Home → ℕ → ℤ
+home_word h k = cond (k % 2 == 0) (low_of h (k / 2)) (high_of h (k / 2))
+
 abbrev pub home_words : Home → List ℤ
-home_words h = map (λ k. cond (k % 2 == 0) (low_of h (k / 2)) (high_of h (k / 2))) (range_with_len 0 16)
+home_words h = map (home_word h) (range_with_len 0 16)
 
 -- eight places by their index, 0 past the first n
 abbrev pub first_or_0 : ℕ → (ℕ → ℤ) → ℕ → ℤ
