@@ -31,7 +31,7 @@ fn place_behind(count: usize) -> u16
     count.min(65534) as u16 + 1
 }
 
-// Each ground in its order, over the whole line.
+// Each ground in its order, over the whole line. One lemma then tells what the five answers say, in `check_line`.
 fn line_faults(line: &[u8], ended: bool) -> Result<(), TextFault>
     ensures { result ≡ line_check line.now ended }
 {
