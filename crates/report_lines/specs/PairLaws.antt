@@ -1,6 +1,6 @@
 -- The pairs of a region in words of their own: each that says more than the ranges is written, no other, and they ascend. Assumes nothing.
 use Rattle.std.specs.Prelude.{◌≡◌, ℕ, ◌+◌, ◌*◌, ◌<◌, List, [], ◌∷◌, ◌+ℤ◌, ◌<ℤ◌, slice_index}
-use Rattle.std.specs.List.{ContainsAt as Has, AllByRecursion}
+use Rattle.std.specs.List.{Contains, All}
 use Rattle.interface.specs.declared.reading.Reading.{Reading}
 use Rattle.interface.specs.Nodes.{opp}
 use Rattle.interface.specs.Numbers.{half}
@@ -21,10 +21,10 @@ rank f = 16 * slice_index f 1 + slice_index f 2
 -- each frame ranks below all that follow it, so none comes twice
 abbrev pub Ascending : List (List ℕ) → Type 0
 Ascending [] = Unit {0}
-Ascending (f ∷ fs) = AllByRecursion (λ e. rank f < rank e) fs × Ascending fs
+Ascending (f ∷ fs) = All (λ e. rank f < rank e) fs × Ascending fs
 
 -- no node is above 15
 pub record PairsTold (g : Reading) (fs : List (List ℕ)) : Type 0 where
-  pub each : (p q : ℕ) → q < 16 → Told g p q → Has fs (pair_frame g p q)
-  pub only : AllByRecursion (λ f. (p : ℕ) × (q : ℕ) × Told g p q × (f ≡ pair_frame g p q)) fs
+  pub each : (p q : ℕ) → q < 16 → Told g p q → Contains fs (pair_frame g p q)
+  pub only : All (λ f. (p : ℕ) × (q : ℕ) × Told g p q × (f ≡ pair_frame g p q)) fs
   pub ascending : Ascending fs

@@ -1,5 +1,6 @@
 // The line of a region's ranges: a home frame, made from the limits.
 ghost use Rattle.std.specs.Prelude.{◌≡◌, [], ◌∷◌};
+ghost use Rattle.interface.specs.Readings.{low_in, high_in};
 ghost use Rattle.wire.specs.Appending.{Appends};
 ghost use Rattle.wire.specs.HomeFrame.{first_or_0};
 ghost use Rattle.report_lines.specs.RegionFrames.{ranges_of, ranges_frame};
@@ -10,21 +11,24 @@ use std::array;
 use wire::frame::Frame;
 use wire::output::Output;
 
-// The value of setting k, 0 past the first n.
-fn first_or_0(n: u8, k: u8, value: i32) -> i32
-    ensures { result ≡ first_or_0 n (λ t. value) k }
+// The least and the greatest value of a setting, 0 for one past the settings.
+fn range(reading: &Reading, k: u8) -> (i32, i32)
+    ensures { result ≡ (first_or_0 reading.now.n (low_in reading.now) k, first_or_0 reading.now.n (high_in reading.now) k) }
 {
-    if k < n { value } else { 0 }
+    if k < reading.n {
+        (reading.low(k), reading.high(k))
+    } else {
+        (0, 0)
+    }
 }
 
 fn ranges(reading: &Reading) -> Home
     ensures { result ≡ ranges_of reading.now }
 {
-    let n = reading.n;
     Home {
-        n,
-        lows: array::from_fn(|k| first_or_0(n, k as u8, reading.low(k as u8))),
-        highs: array::from_fn(|k| first_or_0(n, k as u8, reading.high(k as u8))),
+        n: reading.n,
+        lows: array::from_fn(|k| range(reading, k as u8).0),
+        highs: array::from_fn(|k| range(reading, k as u8).1),
     }
 }
 

@@ -8,6 +8,7 @@ use wire::fault_line::put_fault;
 use wire::output::Output;
 
 // Appends the fault's line. It has 15 bytes; where it has no room, nothing is written.
+#[tactic(auto, using(wire::proofs::Adding::written_whole))]
 pub fn put_refusal(out: &mut Output, fault: SolverFault, line: u16)
     ensures appends { Appends out.old out.new (fault_frame fault line ∷ []) }
     ensures whole { WrittenWhole (lines_in out.old) (fault_frame fault line ∷ []) (lines_in out.new) }

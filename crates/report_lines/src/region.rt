@@ -13,6 +13,7 @@ use wire::output::Output;
 
 // Appends a region's lines. They have at most 1,882 bytes, and where there is room for them, all are written; a line
 // that has no room is left out.
+#[tactic(auto, using(crate::proofs::Bounds::region_bound, crate::proofs::Telling::pairs_told))]
 pub fn put_region(out: &mut Output, reading: &Reading, point: &Point)
     ensures appends { Appends out.old out.new (region_frames reading.now point.now) }
     ensures whole { WrittenWhole (lines_in out.old) (region_frames reading.now point.now) (lines_in out.new) }

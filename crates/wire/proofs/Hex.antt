@@ -1,6 +1,7 @@
 -- Digits go two by two, so byte i is digits 2i and 2i + 1. Assumes nothing.
 use Rattle.std.proofs.Common.{◌≡◌, ℕ, zero, suc, ◌+◌, ◌*◌, ◌/◌, ◌%◌, ◌<◌, ◌≤◌, true, List, [], ◌∷◌, ◌++◌, length, get_or, refl, ap, ◌∙◌, arith}
-use Rattle.std.specs.List.{AllByRecursion}
+use Rattle.std.specs.List.{All}
+use Rattle.std.proofs.lemmas.List.Elements.{All-head, All-tail}
 use Rattle.std.proofs.lemmas.List.{get_or_past}
 use Rattle.std.proofs.lemmas.Bool.Decides.{nat_tests}
 use Rattle.wire.specs.Bytes.{hex, unhex, byte_of, digit_of, digit_value, is_digit}
@@ -43,13 +44,13 @@ value_small d = grind (arith, nat_tests)
 pub digit_is : (v : ℕ) → v < 16 → is_digit (digit_of v) ≡ true
 digit_is v h = grind (arith, nat_tests)
 
-pub unhex_hex : (bs : List ℕ) → AllByRecursion (λ b. b < 256) bs → unhex (hex bs) ≡ bs
+pub unhex_hex : (bs : List ℕ) → All (λ b. b < 256) bs → unhex (hex bs) ≡ bs
 unhex_hex [] a = refl
 unhex_hex (b ∷ bs) a =
-    let high = value_digit (b / 16) (omega (arith, a.0)) in
+    let high = value_digit (b / 16) (omega (arith, All-head (λ b. b < 256) b bs a)) in
     let low = value_digit (b % 16) (omega arith) in
     let here : byte_of (digit_of (b / 16)) (digit_of (b % 16)) ≡ b = (λ i. 16 * high i + low i) ∙ omega arith in
-    let there = unhex_hex bs a.1 in
+    let there = unhex_hex bs (All-tail (λ b. b < 256) b bs a) in
     λ i. here i ∷ there i
 
 pub hex_unhex : (ds : List ℕ) → ((i : ℕ) → i < length ds → is_digit (get_or ds i 0) ≡ true) → length ds % 2 ≡ 0 → hex (unhex ds) ≡ ds

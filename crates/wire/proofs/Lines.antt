@@ -1,8 +1,8 @@
 -- The grounds of a line one after another: where one is reached, none before it holds. Assumes nothing.
-use Rattle.std.proofs.Common.{◌≡◌, ℕ, zero, suc, ◌+◌, ◌-◌, ◌%◌, ◌<◌, ◌≤◌, Bool, true, false, cond, not, ◌||◌, eqb, ltb, ◌⊎◌, List, [], ◌∷◌, length, get_or, take, None, Ok, Err, Result, sym, refl, ap, ◌∙◌, inl, inr, arith}
+use Rattle.std.proofs.Common.{◌≡◌, ℕ, ◌+◌, ◌-◌, ◌%◌, ◌<◌, ◌≤◌, Bool, true, false, not, ◌||◌, eqb, ltb, ◌⊎◌, List, [], ◌∷◌, length, take, None, Ok, Err, Result, sym, refl, ap, ◌∙◌, inl, inr, arith}
 use Rattle.std.specs.List.{prefix_len}
-use Rattle.std.proofs.lemmas.List.{drop_all, length-drop, length-take-le}
-use Rattle.std.proofs.lemmas.Bool.Decides.{nat_tests}
+use Rattle.std.proofs.lemmas.List.{drop_all, take_all, length-drop, length-take-le}
+use Rattle.std.proofs.lemmas.List.Sums.{prefix_len-le-length, prefix_len_passes, prefix_len_stops}
 use Rattle.std.proofs.lemmas.Bool.{ltb-true, ltb-false, lt-ltb, cond-true, eqb-true, eqb-false, or_cases, or_parts, not-true, not-false}
 use Rattle.interface.specs.declared.fault.TextFault.{TextFault}
 use Rattle.interface.specs.Grounds.{first_fault}
@@ -10,28 +10,7 @@ use Rattle.wire.specs.declared.reader.Reader.{Reader}
 use Rattle.wire.specs.Bytes.{is_digit}
 use Rattle.wire.proofs.Hex.{hex_unhex}
 use Rattle.wire.specs.Readers.{left_of, advanced}
-use Rattle.wire.specs.Text.{place, line_length, first_line, has_feed, line_check, line_answer, next_line, used, count_up, next_number, LineSays, AllDigits}
-
-module _ (p : ℕ → Bool) where
-  -- what leads passes, and what stands behind it does not
-  leading_before : (xs : List ℕ) (i : ℕ) → i < prefix_len p xs → p (get_or xs i 0) ≡ true
-  leading_before [] i h = absurd (omega arith)
-  leading_before (x ∷ xs) i h = by (leading_before xs) (p x) refl i h
-    where
-      by : ((i : ℕ) → i < prefix_len p xs → p (get_or xs i 0) ≡ true) → (b : Bool) → p x ≡ b → (i : ℕ) → i < cond b (1 + prefix_len p xs) 0 → p (get_or (x ∷ xs) i 0) ≡ true
-      by more true e zero h = e
-      by more true e (suc i) h = more i (omega arith)
-      by more false e i h = absurd (omega arith)
-
-  leading_stop : (xs : List ℕ) → prefix_len p xs < length xs → p (get_or xs (prefix_len p xs) 0) ≡ false
-  leading_stop [] h = absurd (omega arith)
-  leading_stop (x ∷ xs) h = by (leading_stop xs) (p x) refl h
-    where
-      by : (prefix_len p xs < length xs → p (get_or xs (prefix_len p xs) 0) ≡ false) → (b : Bool) → p x ≡ b → cond b (1 + prefix_len p xs) 0 < suc (length xs) → p (get_or (x ∷ xs) (cond b (1 + prefix_len p xs) 0) 0) ≡ false
-      by more true e h =
-          let one : 1 + prefix_len p xs ≡ suc (prefix_len p xs) = omega arith in
-          ap (λ i. p (get_or (x ∷ xs) i 0)) one ∙ more (omega arith)
-      by more false e h = e
+use Rattle.wire.specs.Text.{place, no_feed, line_length, first_line, has_feed, line_check, line_answer, next_line, used, count_up, next_number, LineSays, AllDigits}
 
 -- four grounds in their order
 four : {F : Type 0} (P : Result (Unit {0}) F → Type 0) (a b c d : Bool) (f g h k : F) → (a ≡ true → P (Err f)) → (a ≡ false → b ≡ true → P (Err g)) → (a ≡ false → b ≡ false → c ≡ true → P (Err h)) → (a ≡ false → b ≡ false → c ≡ false → d ≡ true → P (Err k)) → (a ≡ false → b ≡ false → c ≡ false → d ≡ false → P (Ok tt)) → P (first_fault ((a, f) ∷ (b, g) ∷ (c, h) ∷ (d, k) ∷ []))
@@ -49,7 +28,7 @@ module _ (line : List ℕ) (ended : Bool) where
   n = length line
 
   all_digits : ltb (prefix_len is_digit line) n ≡ false → AllDigits line
-  all_digits e i h = leading_before is_digit line i (omega (arith, ltb-false (prefix_len is_digit line) n e))
+  all_digits e i h = prefix_len_passes is_digit line i 0 (omega (arith, ltb-false (prefix_len is_digit line) n e))
 
   short : ltb 132 n ≡ false → n ≤ 132
   short e = ltb-false 132 n e
@@ -70,7 +49,7 @@ module _ (line : List ℕ) (ended : Bool) where
 
   pub line_says : LineSays line ended (line_check line ended)
   line_says = four (LineSays line ended) (ltb (prefix_len is_digit line) n) (ltb 132 n) (eqb n 0 || eqb (n % 2) 1) (not ended) _ _ _ _
-      (λ a. let lt = ltb-true (prefix_len is_digit line) n a in (prefix_len is_digit line, refl, (lt, leading_stop is_digit line lt, leading_before is_digit line)))
+      (λ a. let lt = ltb-true (prefix_len is_digit line) n a in (prefix_len is_digit line, refl, (lt, prefix_len_stops is_digit line 0 lt, λ i h. prefix_len_passes is_digit line i 0 h)))
       (λ a b. (refl, all_digits a, ltb-true 132 n b))
       (λ a b c. (place_small n (short b), all_digits a, short b, odd c))
       (λ a b c d. (place_small n (short b), all_digits a, (even c).0, short b, (even c).1, not-true ended d))
@@ -94,31 +73,25 @@ module _ (r : Reader) where
       let same : r.line ≡ next_number left r.line = ap (λ l. next_number l r.line) (sym none) in
       λ i. record { text = r.text; pos = stays i; line = same i }
 
-  module _ (end : ℕ) (a : Result (Unit {0}) TextFault) (some : r.pos < length text) (e : end ≡ r.pos + line_length left) (checked : a ≡ line_check (take (end - r.pos) left) (ltb end (length text))) where
-    abbrev part : List ℕ
-    part = take (end - r.pos) left
+  -- the line is the first n bytes of the rest, and its check answers a
+  module _ (rest : List ℕ) (n : ℕ) (a : Result (Unit {0}) TextFault) (some : r.pos < length text) (e : rest ≡ take (length text - r.pos) left) (l : n ≡ line_length rest) (checked : a ≡ line_check (take n rest) (ltb n (length rest))) where
+    all : rest ≡ left
+    all = e ∙ take_all (length text - r.pos) left (omega (arith, length-drop r.pos text))
 
     more : ltb 0 (length left) ≡ true
     more = lt-ltb 0 (length left) (omega (arith, length-drop r.pos text))
 
-    whole : part ≡ first_line left
-    whole =
-        let count : end - r.pos ≡ line_length left = omega arith in
-        ap (λ k. take k left) count
-
-    feed : ltb end (length text) ≡ has_feed left
-    feed = grind (arith, nat_tests, length-drop r.pos text)
-
-    pub line_answered : next_line left ≡ line_answer a part
+    pub line_answered : next_line left ≡ line_answer a (take n rest)
     line_answered =
-        let same : a ≡ line_check (first_line left) (has_feed left) = checked ∙ (λ i. line_check (whole i) (feed i)) in
-        cond-true (ltb 0 (length left)) _ _ more ∙ (λ i. line_answer (sym same i) (sym whole i))
+        let here : a ≡ line_check (first_line rest) (has_feed rest) = checked ∙ (λ i. line_check (take (l i) rest) (ltb (l i) (length rest))) in
+        let answer : next_line left ≡ line_answer (line_check (first_line rest) (has_feed rest)) (first_line rest) = cond-true (ltb 0 (length left)) _ _ more ∙ sym (ap (λ z. line_answer (line_check (first_line z) (has_feed z)) (first_line z)) all) in
+        answer ∙ (λ i. line_answer (sym here i) (take (sym l i) rest))
 
-    pub line_moves : (l p : ℕ) → l ≡ count_up r.line → p ≡ r.pos + used (line_answer a part) → ◌≡◌ {A = Reader} (record { text = r.text; pos = p; line = l }) (advanced r)
-    line_moves l p el ep =
+    pub line_moves : (m p : ℕ) → m ≡ count_up r.line → p ≡ r.pos + used (line_answer a (take n rest)) → ◌≡◌ {A = Reader} (record { text = r.text; pos = p; line = m }) (advanced r)
+    line_moves m p em ep =
         let on : p ≡ r.pos + used (next_line left) = ep ∙ ap (λ x. r.pos + used x) (sym line_answered) in
-        let up : l ≡ next_number left r.line = el ∙ sym (cond-true (ltb 0 (length left)) (count_up r.line) r.line more) in
+        let up : m ≡ next_number left r.line = em ∙ sym (cond-true (ltb 0 (length left)) (count_up r.line) r.line more) in
         λ i. record { text = r.text; pos = on i; line = up i }
 
-    pub part_long : end ≤ length text → length part ≡ end - r.pos
-    part_long h = length-take-le (end - r.pos) left (omega (arith, length-drop r.pos text))
+    pub line_long : length (take n rest) ≡ n
+    line_long = length-take-le n rest (omega (arith, prefix_len-le-length no_feed rest))

@@ -1,12 +1,13 @@
 -- Fields that follow one another are read and written one after the other, so both round trips go field by field. Assumes nothing.
 use Rattle.std.specs.Prelude.{◌≡◌, ℕ, zero, suc, ◌+◌, ◌^◌, ◌<◌, ◌≤◌, Bool, true, false, List, [], ◌∷◌, ◌++◌, length, drop, ℤ, pos, Ok, FitsSigned, slice_index, slice_index_or, refl}
-use Rattle.std.proofs.Common.{ap, sym, ◌∙◌, subst, arith}
+use Rattle.std.proofs.Common.{◌⊎◌, inl, inr, ap, sym, ◌∙◌, subst, arith}
 use Rattle.std.proofs.Math.Facts.{Fits-of_z}
 use Rattle.std.specs.Int.{Width, w8, w16, w32, w64, w128}
 use mir.Val.{of_z, bytes, bits}
-use Rattle.std.specs.List.{AllByRecursion}
-use Rattle.std.proofs.ByRecursion.{All-append}
-use Rattle.std.proofs.lemmas.List.{ext_get_or, drop_more, drop_all, get_or_at, append_assoc, length_push, length-append}
+use Rattle.std.specs.List.{All}
+use Rattle.std.proofs.lemmas.List.Elements.{All-nil, All-cons, All-append}
+use Rattle.std.proofs.lemmas.List.{ext_get_or, drop_more, drop_all, get_or_at, get_or_past, append_assoc, length_push, length-append}
+use Rattle.std.proofs.lemmas.Bool.{cases_lt}
 use Rattle.std.proofs.lemmas.Int.{to_z-of_z, of_z-to_z}
 use Rattle.wire.specs.Bytes.{be, val, part}
 use Rattle.wire.specs.Frames.{FrameLaws, Field, field, Codec, CodecLaws, by_table, field_value, field_bits, read_field, write_field, read_fields, write_fields, widths, Laid, Fit, FitAll}
@@ -24,14 +25,16 @@ pub length_part : (w i : ℕ) (bs : List ℕ) → length (part w i bs) ≡ w
 length_part zero i bs = refl
 length_part (suc w) i bs = ap suc (length_part w (i + 1) bs)
 
-pub byte_small : (bs : List ℕ) (i : ℕ) → AllByRecursion (λ b. b < 256) bs → slice_index bs i < 256
-byte_small [] i a = omega arith
-byte_small (b ∷ bs) zero a = a.0
-byte_small (b ∷ bs) (suc i) a = byte_small bs i a.1
+pub byte_small : (bs : List ℕ) (i : ℕ) → All (λ b. b < 256) bs → slice_index bs i < 256
+byte_small bs i a = way (cases_lt i (length bs))
+  where
+    way : (i < length bs) ⊎ (length bs ≤ i) → slice_index bs i < 256
+    way (inl lt) = a i 0 lt
+    way (inr le) = rw (get_or_past bs i 0 le) (omega arith)
 
-pub small_part : (w i : ℕ) (bs : List ℕ) → AllByRecursion (λ b. b < 256) bs → AllByRecursion (λ b. b < 256) (part w i bs)
-small_part zero i bs a = tt
-small_part (suc w) i bs a = (byte_small bs i a, small_part w (i + 1) bs a)
+pub small_part : (w i : ℕ) (bs : List ℕ) → All (λ b. b < 256) bs → All (λ b. b < 256) (part w i bs)
+small_part zero i bs a = All-nil (λ b. b < 256)
+small_part (suc w) i bs a = All-cons (λ b. b < 256) (slice_index bs i) (part w (i + 1) bs) (byte_small bs i a) (small_part w (i + 1) bs a)
 
 pub get_or_part : (w i : ℕ) (bs : List ℕ) (r : ℕ) → r < w → slice_index (part w i bs) r ≡ slice_index bs (i + r)
 get_or_part zero i bs r h = absurd (omega arith)
@@ -98,21 +101,21 @@ length_fields [] (z ∷ zs) fit = absurd fit
 length_fields (f ∷ fs) [] fit = absurd fit
 length_fields (f ∷ fs) (z ∷ zs) fit = length-append (write_field f z) (write_fields fs zs) ∙ ap (λ k. k + length (write_fields fs zs)) (length_be (bytes f.width) (field_bits f z)) ∙ ap (λ k. bytes f.width + k) (length_fields fs zs fit.1)
 
-small_fields : (fs : List Field) (zs : List ℤ) → FitAll fs zs → AllByRecursion (λ b. b < 256) (write_fields fs zs)
-small_fields [] [] fit = tt
+small_fields : (fs : List Field) (zs : List ℤ) → FitAll fs zs → All (λ b. b < 256) (write_fields fs zs)
+small_fields [] [] fit = All-nil (λ b. b < 256)
 small_fields [] (z ∷ zs) fit = absurd fit
 small_fields (f ∷ fs) [] fit = absurd fit
 small_fields (f ∷ fs) (z ∷ zs) fit = All-append (λ b. b < 256) (write_field f z) (write_fields fs zs) (small_be (bytes f.width) (field_bits f z) fit.0.0) (small_fields fs zs fit.1)
 
 -- a field is written as it was read
-pub write_one : (f : Field) (bs : List ℕ) → AllByRecursion (λ b. b < 256) bs → write_field f (read_field f bs) ≡ part (bytes f.width) f.offset bs
+pub write_one : (f : Field) (bs : List ℕ) → All (λ b. b < 256) bs → write_field f (read_field f bs) ≡ part (bytes f.width) f.offset bs
 write_one f bs a =
     let q = part (bytes f.width) f.offset bs in
     let long : length q ≡ bytes f.width = length_part (bytes f.width) f.offset bs in
     let small = small_part (bytes f.width) f.offset bs a in
     ap (be (bytes f.width)) (bits_value f (val q) (subst (λ w. val q < 256 ^ w) long (val_below q small))) ∙ ap (λ w. be w (val q)) (sym long) ∙ be_val q small
 
-write_all : (fs : List Field) (i : ℕ) (bs : List ℕ) → AllByRecursion (λ b. b < 256) bs → Laid i fs → length bs ≡ i + widths fs → write_fields fs (read_fields fs bs) ≡ drop i bs
+write_all : (fs : List Field) (i : ℕ) (bs : List ℕ) → All (λ b. b < 256) bs → Laid i fs → length bs ≡ i + widths fs → write_fields fs (read_fields fs bs) ≡ drop i bs
 write_all [] i bs a laid long = sym (drop_all i bs (omega arith))
 write_all (f ∷ fs) i bs a laid long =
     ap (λ q. q ++ write_fields fs (read_fields fs bs)) (write_one f bs a ∙ ap (λ k. part (bytes f.width) k bs) laid.0)
@@ -129,7 +132,7 @@ module _ {R : Type 0} (C : Codec R) (L : CodecLaws C) where
     written_accepted = λ n low high r ok. record {
       coded = refl;
       sized = omega (arith, length_fields C.table (C.fields r) (L.fit n low high r ok));
-      small = (L.code_small, small_fields C.table (C.fields r) (L.fit n low high r ok));
+      small = All-cons (λ b. b < 256) C.code (write_fields C.table (C.fields r)) L.code_small (small_fields C.table (C.fields r) (L.fit n low high r ok));
       passes = ap (C.check n) (back n low high r ok) ∙ ok;
     };
     read_written = back;

@@ -2,7 +2,7 @@
 use Rattle.std.specs.Prelude.{◌≡◌, ℕ, ◌+◌, ◌^◌, ◌<◌, ◌≤◌, Bool, cond, List, [], ◌∷◌, ◌++◌, length, ℤ, pos, Ok, Result, slice_index_or, unsigned_abs}
 use Rattle.std.specs.Int.{Width}
 use mir.Val.{to_z, of_z, bytes}
-use Rattle.std.specs.List.{AllByRecursion}
+use Rattle.std.specs.List.{All}
 use Rattle.interface.specs.declared.fault.RecordFault.{RecordFault}
 use Rattle.wire.specs.declared.frame.FrameKind.{FrameKind}
 use Rattle.wire.specs.Bytes.{be, val, part}
@@ -21,7 +21,7 @@ pub record FrameModel (R : Type 0) : Type 0 where
 pub record Accepted {R : Type 0} (M : FrameModel R) (n : ℕ) (bs : List ℕ) : Type 0 where
   pub coded : slice_index_or bs 0 0 ≡ M.kind.code
   pub sized : length bs ≡ size_of M.kind bs
-  pub small : AllByRecursion (λ b. b < 256) bs
+  pub small : All (λ b. b < 256) bs
   pub passes : M.check n (M.read bs) ≡ Ok tt
 
 -- the round trips, for every n from 1 to 8

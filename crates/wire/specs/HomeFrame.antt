@@ -1,5 +1,5 @@
 -- The home frame: 01, the number n of settings, then n times low and high, four bytes each. Assumes nothing.
-use Rattle.std.specs.Prelude.{ℕ, ◌+◌, ◌-◌, ◌*◌, ◌/◌, ◌%◌, min, cond, List, map, ℤ, pos, ◌==◌, nat_lt, slice_index}
+use Rattle.std.specs.Prelude.{ℕ, ◌+◌, ◌*◌, ◌/◌, ◌%◌, min, cond, List, map, ℤ, pos, ◌==◌, nat_lt, slice_index}
 use Rattle.std.specs.Int.{w32}
 use Rattle.std.proofs.Common.{to_z}
 use Rattle.std.specs.List.{range_with_len}
@@ -7,22 +7,22 @@ use Rattle.interface.specs.declared.home.Home.{Home}
 use Rattle.interface.specs.Homes.{low_of, high_of, home_check}
 use Rattle.wire.specs.Bytes.{val, part}
 use Rattle.wire.specs.Frames.{FrameModel}
-use Rattle.wire.specs.Words.{word_byte}
+use Rattle.wire.specs.Words.{words_frame_byte}
 
 -- the signed number in the four bytes from i on
 abbrev pub word_at : List ℕ → ℕ → ℤ
 word_at bs i = to_z w32 (val (part 4 i bs))
 
--- byte j behind the first two: of the eight bytes of setting j / 8 the first four are its low, the others its high
-abbrev pub range_byte : Home → ℕ → ℕ
-range_byte h j = cond (nat_lt (j % 8) 4) (word_byte (low_of h (j / 8)) (j % 8)) (word_byte (high_of h (j / 8)) (j % 8 - 4))
-
-abbrev pub home_byte : Home → ℕ → ℕ
-home_byte h j = cond (j == 0) 1 (cond (j == 1) h.n (range_byte h (j - 2)))
-
 -- low and high of each setting in turn
+abbrev pub home_word : Home → ℕ → ℤ
+home_word h k = cond (k % 2 == 0) (low_of h (k / 2)) (high_of h (k / 2))
+
 abbrev pub home_words : Home → List ℤ
-home_words h = map (λ k. cond (k % 2 == 0) (low_of h (k / 2)) (high_of h (k / 2))) (range_with_len 0 16)
+home_words h = map (home_word h) (range_with_len 0 16)
+
+-- byte j of the frame of eight settings
+abbrev pub home_byte : Home → ℕ → ℕ
+home_byte h = words_frame_byte 1 h.n (home_words h)
 
 -- eight places by their index, 0 past the first n
 abbrev pub first_or_0 : ℕ → (ℕ → ℤ) → ℕ → ℤ

@@ -1,13 +1,13 @@
 -- The home frame byte by byte: byte j of what is written is byte j of what was read. Assumes nothing.
-use Rattle.std.specs.Prelude.{◌≡◌, ℕ, zero, suc, ◌+◌, ◌-◌, ◌*◌, ◌/◌, ◌%◌, ◌<◌, ◌≤◌, min, true, cond, not, ◌⊎◌, List, [], ◌∷◌, map, length, get_or, take, ℤ, pos, FitsSigned, ◌==◌, int_lt, nat_lt, slice_index, slice_index_or, refl}
+use Rattle.std.specs.Prelude.{◌≡◌, ℕ, zero, suc, ◌+◌, ◌-◌, ◌*◌, ◌/◌, ◌%◌, ◌<◌, ◌≤◌, min, true, cond, not, ◌⊎◌, List, [], ◌∷◌, map, length, get_or, ℤ, pos, FitsSigned, ◌==◌, int_lt, nat_lt, slice_index, slice_index_or, refl}
 use Rattle.std.proofs.Common.{inl, inr, ap, sym, ◌∙◌, subst, to_z, of_z, arith}
 use Rattle.std.proofs.Math.Facts.{Fits-of_z}
 use Rattle.std.specs.Int.{w32}
 use Rattle.std.specs.List.{range_with_len}
-use Rattle.std.proofs.lemmas.List.FromFn.{fill_by_all, get_or-map-range_with_len, length-map-range_with_len, take-map-range_with_len}
-use Rattle.std.proofs.ByRecursion.{All-from_get_or}
+use Rattle.std.proofs.lemmas.List.FromFn.{fill_by_all, get_or-map-range_with_len, length-map-range_with_len}
+use Rattle.std.proofs.lemmas.List.Elements.{All-from_get_or}
 use Rattle.std.proofs.lemmas.Int.{to_z-of_z}
-use Rattle.std.proofs.lemmas.Bool.{cond-true, cond-false, cases_lt, lt-ltb, le-ltb, ne_eqb}
+use Rattle.std.proofs.lemmas.Bool.{cond-true, cond-false, cases_lt, lt-ltb, le-ltb, eq-eqb, ne_eqb}
 use Rattle.interface.specs.declared.home.Home.{Home}
 use Rattle.interface.specs.declared.fault.RecordFault.TheVariants.{Range, Crossed}
 use Rattle.interface.specs.Grounds.{first_fault, next}
@@ -15,10 +15,10 @@ use Rattle.interface.specs.Homes.{Passes, low_of, high_of, home_check, settings_
 use Rattle.interface.specs.Numbers.{within}
 use Rattle.wire.specs.Bytes.{be, val}
 use Rattle.wire.specs.Frames.{FrameLaws, Accepted, field}
-use Rattle.wire.specs.HomeFrame.{word_at, range_byte, home_byte, first_or_0, eight, write_home, read_home, counted_home, home_frame}
+use Rattle.wire.specs.HomeFrame.{word_at, home_word, home_words, home_byte, first_or_0, eight, write_home, read_home, counted_home, home_frame}
 use Rattle.wire.specs.BigEndian.{small_be, val_be}
 use Rattle.wire.specs.Codecs.{write_one, get_or_part, part_is, byte_small}
-use Rattle.wire.specs.Words.{word_byte}
+use Rattle.wire.specs.Words.{word_byte, words_byte}
 use Rattle.wire.specs.Passing.{settings_ok, low_fits, high_fits, joined_same}
 
 -- the places of a home frame: its code, n, and the bytes of lows and highs
@@ -31,23 +31,26 @@ by_place P n code count low high (suc (suc m)) h = way (cases_lt (m % 8) 4)
     way (inl lt) = subst P (omega arith) (low (m / 8) (m % 8) (omega arith) lt)
     way (inr le) = subst P (omega arith) (high (m / 8) (m % 8 - 4) (omega arith) (omega arith))
 
-module _ (h : Home) (k r : ℕ) (small : r < 4) where
-  abbrev range : ℕ → ℕ → ℕ
-  range d e = cond (nat_lt e 4) (word_byte (low_of h d) e) (word_byte (high_of h d) (e - 4))
-
-  range_at : (j d e : ℕ) → (j - 2) / 8 ≡ d → (j - 2) % 8 ≡ e → 2 ≤ j → home_byte h j ≡ range d e
-  range_at j d e p q past =
-      cond-false (j == 0) 1 (cond (j == 1) h.n (range_byte h (j - 2))) (ne_eqb j 0 (λ e. omega arith))
-      ∙ cond-false (j == 1) h.n (range_byte h (j - 2)) (ne_eqb j 1 (λ e. omega arith))
-      ∙ ap (λ x. range x ((j - 2) % 8)) p ∙ ap (range d) q
+-- byte r of the low and of the high of setting k
+module _ (h : Home) (k r : ℕ) (on : k < 8) (small : r < 4) where
+  word_at_place : (j d : ℕ) → 2 ≤ j → (j - 2) / 4 ≡ d → (j - 2) % 4 ≡ r → d < 16 → home_byte h j ≡ word_byte (home_word h d) r
+  word_at_place j d past p q below =
+      cond-false (j == 0) 1 (cond (j == 1) h.n (words_byte (home_words h) (j - 2))) (ne_eqb j 0 (λ e. omega arith))
+      ∙ cond-false (j == 1) h.n (words_byte (home_words h) (j - 2)) (ne_eqb j 1 (λ e. omega arith))
+      ∙ (λ i. word_byte (slice_index_or (home_words h) (p i) (pos 0)) (q i))
+      ∙ ap (λ z. word_byte z r) (get_or-map-range_with_len (home_word h) 0 16 d d (pos 0) below (omega arith))
 
   home_low : home_byte h (2 + 8 * k + r) ≡ word_byte (low_of h k) r
-  home_low = range_at (2 + 8 * k + r) k r (omega arith) (omega arith) (omega arith) ∙ cond-true (nat_lt r 4) _ _ (lt-ltb r 4 small)
+  home_low =
+      let half : 2 * k / 2 ≡ k = omega arith in
+      word_at_place (2 + 8 * k + r) (2 * k) (omega arith) (omega arith) (omega arith) (omega arith)
+      ∙ ap (λ z. word_byte z r) (cond-true (2 * k % 2 == 0) _ _ (eq-eqb _ _ (omega arith)) ∙ ap (low_of h) half)
 
   home_high : home_byte h (6 + 8 * k + r) ≡ word_byte (high_of h k) r
   home_high =
-      let e : r + 4 - 4 ≡ r = omega arith in
-      range_at (6 + 8 * k + r) k (r + 4) (omega arith) (omega arith) (omega arith) ∙ cond-false (nat_lt (r + 4) 4) _ _ (le-ltb (r + 4) 4 (omega arith)) ∙ ap (word_byte (high_of h k)) e
+      let half : (2 * k + 1) / 2 ≡ k = omega arith in
+      word_at_place (6 + 8 * k + r) (2 * k + 1) (omega arith) (omega arith) (omega arith) (omega arith)
+      ∙ ap (λ z. word_byte z r) (cond-false ((2 * k + 1) % 2 == 0) _ _ (ne_eqb _ _ (λ e. omega arith)) ∙ ap (high_of h) half)
 
 -- eight places agree where the first n do
 first_same : (n : ℕ) (f g : ℕ → ℤ) (k : ℕ) → (k < n → f k ≡ g k) → first_or_0 n f k ≡ first_or_0 n g k
@@ -77,10 +80,10 @@ module _ (h : Home) (ok : Passes h) where
       ap (λ p. to_z w32 (val p)) (part_is 4 i (write_home h) q refl same) ∙ ap (to_z w32) (val_be 3 (of_z w32 z) (Fits-of_z fits).fits) ∙ to_z-of_z w32 z fits
 
   low_back : (k : ℕ) → k < h.n → word_at (write_home h) (2 + 8 * k) ≡ low_of h k
-  low_back k lt = word_back (2 + 8 * k) (low_of h k) (low_fits h ok k lt) (λ r small. byte_at (2 + 8 * k + r) (omega arith) ∙ home_low h k r small)
+  low_back k lt = word_back (2 + 8 * k) (low_of h k) (low_fits h ok k lt) (λ r small. byte_at (2 + 8 * k + r) (omega arith) ∙ home_low h k r (omega (arith, (settings_ok h ok).1)) small)
 
   high_back : (k : ℕ) → k < h.n → word_at (write_home h) (6 + 8 * k) ≡ high_of h k
-  high_back k lt = word_back (6 + 8 * k) (high_of h k) (high_fits h ok k lt) (λ r small. byte_at (6 + 8 * k + r) (omega arith) ∙ home_high h k r small)
+  high_back k lt = word_back (6 + 8 * k) (high_of h k) (high_fits h ok k lt) (λ r small. byte_at (6 + 8 * k + r) (omega arith) ∙ home_high h k r (omega (arith, (settings_ok h ok).1)) small)
 
   count_back : get_or (write_home h) 1 0 ≡ h.n
   count_back = byte_at 1 (omega arith)
@@ -95,7 +98,7 @@ module _ (h : Home) (ok : Passes h) where
   word_small z r fits = byte_small (be 4 (of_z w32 z)) r (small_be 4 (of_z w32 z) (Fits-of_z fits).fits)
 
   bytes_small : (j : ℕ) → j < 2 + 8 * h.n → home_byte h j < 256
-  bytes_small = by_place (λ j. home_byte h j < 256) h.n (omega arith) (omega (arith, (settings_ok h ok).1)) (λ k r lt small. subst (λ b. b < 256) (sym (home_low h k r small)) (word_small (low_of h k) r (low_fits h ok k lt))) (λ k r lt small. subst (λ b. b < 256) (sym (home_high h k r small)) (word_small (high_of h k) r (high_fits h ok k lt)))
+  bytes_small = by_place (λ j. home_byte h j < 256) h.n (omega arith) (omega (arith, (settings_ok h ok).1)) (λ k r lt small. subst (λ b. b < 256) (sym (home_low h k r (omega (arith, (settings_ok h ok).1)) small)) (word_small (low_of h k) r (low_fits h ok k lt))) (λ k r lt small. subst (λ b. b < 256) (sym (home_high h k r (omega (arith, (settings_ok h ok).1)) small)) (word_small (high_of h k) r (high_fits h ok k lt)))
 
   home_long : length (write_home h) ≡ 2 + 8 * h.n
   home_long = length-map-range_with_len (home_byte h) 0 size ∙ omega (arith, (settings_ok h ok).1)
@@ -131,8 +134,8 @@ module _ (n : ℕ) (bs : List ℕ) (a : Accepted home_frame n bs) where
 
   byte_again : (j : ℕ) → j < 2 + 8 * slice_index bs 1 → slice_index bs j ≡ home_byte h j
   byte_again = by_place (λ j. slice_index bs j ≡ home_byte h j) (slice_index bs 1) a.coded refl
-      (λ k r lt small. sym (home_low h k r small ∙ word_again (2 + 8 * k) (low_of h k) r small (eight_at (slice_index bs 1) (λ k. word_at bs (2 + 8 * k)) k top lt)))
-      (λ k r lt small. sym (home_high h k r small ∙ word_again (6 + 8 * k) (high_of h k) r small (eight_at (slice_index bs 1) (λ k. word_at bs (6 + 8 * k)) k top lt)))
+      (λ k r lt small. sym (home_low h k r (omega (arith, top)) small ∙ word_again (2 + 8 * k) (low_of h k) r small (eight_at (slice_index bs 1) (λ k. word_at bs (2 + 8 * k)) k top lt)))
+      (λ k r lt small. sym (home_high h k r (omega (arith, top)) small ∙ word_again (6 + 8 * k) (high_of h k) r small (eight_at (slice_index bs 1) (λ k. word_at bs (6 + 8 * k)) k top lt)))
 
   frame_back : write_home (read_home bs) ≡ bs
   frame_back = sym (fill_by_all (home_byte h) bs (2 + 8 * min (slice_index bs 1) 8) 0 (a.sized ∙ omega (arith, top)) (λ j lt. byte_again j (omega arith)))

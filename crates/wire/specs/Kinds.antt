@@ -1,5 +1,5 @@
 -- The kinds of frame, and the grounds on which a frame is refused before its fields are read. Assumes nothing.
-use Rattle.std.specs.Prelude.{ℕ, ◌+◌, ◌*◌, Bool, false, cond, not, List, [], ◌∷◌, length, is_some, Some, None, Ok, Err, Option, Result, ◌==◌, slice_index}
+use Rattle.std.specs.Prelude.{ℕ, ◌+◌, ◌*◌, Bool, false, cond, not, List, [], ◌∷◌, length, find, is_some, Some, None, Ok, Err, Option, Result, ◌==◌, slice_index}
 use Rattle.interface.specs.declared.fault.TextFault.{TextFault}
 use Rattle.interface.specs.declared.fault.FrameFault.{FrameFault}
 use Rattle.interface.specs.declared.fault.FrameFault.TheVariants.{Text, Kind, Order, Length}
@@ -14,8 +14,7 @@ size_of k bs = k.base + k.each * slice_index bs 1
 
 -- the first known kind of this code
 abbrev pub find_kind : List FrameKind → ℕ → Option FrameKind
-find_kind [] c = None
-find_kind (k ∷ ks) c = cond (k.code == c) (Some k) (find_kind ks c)
+find_kind ks c = find (λ k. k.code == c) ks
 
 -- the frame has as many bytes as its kind says
 abbrev pub right_size : Option FrameKind → List ℕ → Bool

@@ -31,6 +31,7 @@ fn pair_value(high: u8, low: u8) -> u8
 }
 
 // Byte i of a line, 0 where it has none.
+#[tactic(auto, using(crate::proofs::Hex::unhex_at, crate::proofs::Hex::unhex_past))]
 pub fn byte_at(digits: &[u8], i: usize) -> u8
     ensures { result ≡ slice_index (unhex digits.now) i }
 {

@@ -1,7 +1,7 @@
 // The home record's frame: 01, the number of settings, then the low and the high of each, four bytes each.
 ghost use Rattle.std.specs.Prelude.{◌≡◌, ◌+◌, ◌*◌, ◌<◌};
 ghost use Rattle.wire.specs.Bytes.{unhex};
-ghost use Rattle.wire.specs.HomeFrame.{word_at, first_or_0, eight, home_words, home_frame};
+ghost use Rattle.wire.specs.HomeFrame.{word_at, first_or_0, eight, home_word, home_words, home_frame};
 ghost use Rattle.wire.specs.HomeTrips.{home_laws};
 
 use super::bytes::{byte_at, i32_at};
@@ -31,10 +31,21 @@ fn words(digits: &[u8], n: u8, from: u16) -> [i32; 8]
 }
 
 // Low and high of each setting in turn.
+fn home_word(home: &Home, k: usize) -> i32
+    requires { k < 16 }
+    ensures { result ≡ home_word home.now k }
+{
+    if k % 2 == 0 {
+        home.lows[k / 2]
+    } else {
+        home.highs[k / 2]
+    }
+}
+
 fn home_words(home: &Home) -> [i32; 16]
     ensures { result ≡ home_words home.now }
 {
-    array::from_fn(|k| if k % 2 == 0 { home.lows[k / 2] } else { home.highs[k / 2] })
+    array::from_fn(|k| home_word(home, k))
 }
 
 impl Frame for Home {

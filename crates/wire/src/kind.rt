@@ -1,8 +1,8 @@
 // The grounds on which a frame is refused before its fields are read.
-ghost use Rattle.std.specs.Prelude.{◌≡◌, Bool, length};
+ghost use Rattle.std.specs.Prelude.{◌≡◌, Some};
 ghost use Rattle.interface.specs.Grounds.{first_fault};
 ghost use Rattle.wire.specs.Bytes.{unhex};
-ghost use Rattle.wire.specs.Kinds.{find_kind, size_of, misplaced, frame_grounds, next_frame};
+ghost use Rattle.wire.specs.Kinds.{find_kind, right_size, frame_grounds, next_frame};
 ghost use Rattle.wire.specs.Readers.{left_of, seen, advanced};
 ghost use Rattle.wire.specs.Text.{next_line};
 
@@ -14,30 +14,15 @@ use interface::fault::FrameFault;
 fn find_kind(kinds: &[FrameKind], code: u8) -> Option<FrameKind>
     ensures { result ≡ find_kind kinds.now code }
 {
-    for kind in kinds {
-        if kind.code == code {
-            return Some(*kind);
-        }
-    }
-    None
+    kinds.iter().copied().find(|kind| kind.code == code)
 }
 
-fn byte_count(digits: &[u8]) -> usize
-    ensures { result ≡ length (unhex digits.now) }
+// Whether the frame has as many bytes as its kind says, by its own second byte.
+#[tactic(auto, using(crate::proofs::Hex::length_unhex))]
+fn is_sized(kind: FrameKind, digits: &[u8]) -> bool
+    ensures { result ≡ right_size (Some kind) (unhex digits.now) }
 {
-    digits.len() / 2
-}
-
-fn kind_size(kind: FrameKind, digits: &[u8]) -> usize
-    ensures { result ≡ size_of kind (unhex digits.now) }
-{
-    kind.base as usize + kind.each as usize * byte_at(digits, 1) as usize
-}
-
-fn is_misplaced(first: bool, code: u8) -> bool
-    ensures { result ≡ misplaced first code }
-{
-    if first { code != 1 } else { code == 1 }
+    digits.len() / 2 == kind.base as usize + kind.each as usize * byte_at(digits, 1) as usize
 }
 
 // Refused if its first byte is the code of none of the known kinds, if it is the first frame and no home or a later
@@ -49,10 +34,10 @@ pub fn check_frame(digits: &[u8], first: bool, kinds: &[FrameKind]) -> Result<()
     let Some(kind) = find_kind(kinds, code) else {
         return Err(FrameFault::Kind(1));
     };
-    if is_misplaced(first, code) {
+    if first != (code == 1) {
         return Err(FrameFault::Order(1));
     }
-    if byte_count(digits) != kind_size(kind, digits) {
+    if !is_sized(kind, digits) {
         return Err(FrameFault::Length(1));
     }
     Ok(())

@@ -1,5 +1,5 @@
 // A reader over a lent text: it hands out each line's digits as a part of that text.
-ghost use Rattle.std.specs.Prelude.{◌≡◌, ◌+◌, ◌-◌, ◌^◌, ◌<◌, ◌≤◌, length, drop};
+ghost use Rattle.std.specs.Prelude.{◌≡◌};
 ghost use Rattle.wire.specs.Readers.{left_of, seen, advanced};
 ghost use Rattle.wire.specs.Text.{line_length, next_line, count_up};
 
@@ -14,32 +14,17 @@ pub struct Reader<'a> {
     pub line: u16,
 }
 
-// Where the line that starts at `pos` ends: at its line feed or at the text's end.
-fn line_end(text: &[u8], pos: usize) -> usize
-    requires { pos < length text.now }
-    ensures value { result ≡ pos + line_length (drop pos text.now) }
-    ensures bound { result ≤ length text.now }
+// How many bytes stand in front of the first line feed, or of the end.
+fn line_length(rest: &[u8]) -> usize
+    ensures { result ≡ line_length rest.now }
 {
-    for end in pos..text.len() {
-        if text[end] == b'\n' {
-            return end;
-        }
-    }
-    text.len()
+    rest.iter().take_while(|byte| **byte != b'\n').count()
 }
 
 fn next_number(line: u16) -> u16
     ensures { result ≡ count_up line }
 {
-    if line < 65535 { line + 1 } else { line }
-}
-
-// The place behind a line feed.
-fn behind_feed(end: usize) -> usize
-    requires { end < 2 ^ 64 - 1 }
-    ensures { result ≡ end + 1 }
-{
-    end + 1
+    line.saturating_add(1)
 }
 
 impl<'a> Reader<'a> {
@@ -65,10 +50,11 @@ impl<'a> Reader<'a> {
             return Ok(None);
         }
         self.line = next_number(self.line);
-        let end = line_end(text, self.pos);
-        let line = &text[self.pos..end];
-        check_line(line, end < text.len())?;
-        self.pos = behind_feed(end);
+        let rest = &text[self.pos..];
+        let length = line_length(rest);
+        let line = &rest[..length];
+        check_line(line, length < rest.len())?;
+        self.pos += length + 1;
         Ok(Some(line))
     }
 }

@@ -1,5 +1,5 @@
 // The grounds on which a text, or one line of it, is refused.
-ghost use Rattle.std.specs.Prelude.{◌≡◌, ◌%◌, ◌||◌, ◌==◌};
+ghost use Rattle.std.specs.Prelude.{◌≡◌};
 ghost use Rattle.std.specs.List.{prefix_len};
 ghost use Rattle.interface.specs.Grounds.{first_fault};
 ghost use Rattle.wire.specs.Bytes.{is_digit};
@@ -12,43 +12,26 @@ use interface::fault::TextFault;
 pub fn text_size(text: &[u8]) -> Result<(), TextFault>
     ensures { result ≡ first_fault (size_grounds text.now) }
 {
-    if text.len() == 0 {
-        return Err(TextFault::Size);
+    if (1..=8192).contains(&text.len()) {
+        Ok(())
+    } else {
+        Err(TextFault::Size)
     }
-    if text.len() > 8192 {
-        return Err(TextFault::Size);
-    }
-    Ok(())
 }
 
 fn count_digits(line: &[u8]) -> usize
     ensures { result ≡ prefix_len is_digit line.now }
 {
-    for i in 0..line.len() {
-        if !is_digit(line[i]) {
-            return i;
-        }
-    }
-    line.len()
+    line.iter().take_while(|byte| is_digit(**byte)).count()
 }
 
 fn place_behind(count: usize) -> u16
     ensures { result ≡ place count }
 {
-    if count < 65535 {
-        count as u16 + 1
-    } else {
-        65535
-    }
+    count.min(65534) as u16 + 1
 }
 
-fn none_or_odd(count: usize) -> bool
-    ensures { result ≡ (count == 0 || count % 2 == 1) }
-{
-    count == 0 || count % 2 == 1
-}
-
-// Each ground in its order, over the whole line.
+// Each ground in its order, over the whole line. One lemma then tells what the five answers say, in `check_line`.
 fn line_faults(line: &[u8], ended: bool) -> Result<(), TextFault>
     ensures { result ≡ line_check line.now ended }
 {
@@ -59,7 +42,7 @@ fn line_faults(line: &[u8], ended: bool) -> Result<(), TextFault>
     if line.len() > 132 {
         return Err(TextFault::Long(133));
     }
-    if none_or_odd(line.len()) {
+    if line.is_empty() || line.len() % 2 == 1 {
         return Err(TextFault::Digits(place_behind(line.len())));
     }
     if !ended {

@@ -1,6 +1,7 @@
-use Rattle.std.proofs.Common.{Ok, Err, sym, arith}
+use Rattle.std.proofs.Common.{◌+◌, ◌-◌, length, take, Ok, Err, refl, sym, ap, arith}
 use Rattle.std.proofs.lemmas.Result.{err_from_is_err_and}
-use Rattle.wire.proofs.Lines.{none_left, none_moves, line_answered, line_moves, part_long}
+use Rattle.wire.specs.Readers.{left_of}
+use Rattle.wire.proofs.Lines.{none_left, none_moves, line_answered, line_moves, line_long}
 use Rattle.wire.proofs.reader.Reader.next_line.Goals as goal
 
 pub returns-then-self-text : goal.returns-then-self-text
@@ -12,16 +13,21 @@ returns-then-self-text c = record {
 pub returns-in_err-check_line : goal.returns-in_err-check_line
 returns-in_err-check_line c =
     let p = err_from_is_err_and c.from_residual.result c.from_residual.ensures.1 in
+    let r = c.args.self.now in
+    let rest = take (length r.text.now - r.pos) (left_of r) in
     let fault = Err c.in_err-check_line.field-0.0 in
     record {
-      value = rw (p.1, p.2) (sym (line_answered c.args.self.now c.line_end-end.result fault c.if-self-text.false c.line_end-end.ensures.value c.in_err-check_line.ensures.value));
-      after = line_moves c.args.self.now c.line_end-end.result fault c.if-self-text.false c.line_end-end.ensures.value c.in_err-check_line.ensures.value c.next_number-self.result c.args.self.now.pos c.next_number-self.ensures (omega arith);
+      value = rw (p.1, p.2) (sym (line_answered r rest c.line_length-length.result fault c.if-self-text.false refl c.line_length-length.ensures c.in_err-check_line.ensures.value));
+      after = line_moves r rest c.line_length-length.result fault c.if-self-text.false refl c.line_length-length.ensures c.in_err-check_line.ensures.value c.next_number-self.result r.pos c.next_number-self.ensures (omega arith);
     }
 
 pub returns : goal.returns
 returns c =
-    let long = part_long c.args.self.now c.line_end-end.result (Ok tt) c.if-self-text.false c.line_end-end.ensures.value c.in_ok-check_line.ensures.value c.line_end-end.ensures.bound in
+    let r = c.args.self.now in
+    let rest = take (length r.text.now - r.pos) (left_of r) in
+    let n = c.line_length-length.result in
+    let long = line_long r rest n (Ok tt) c.if-self-text.false refl c.line_length-length.ensures c.in_ok-check_line.ensures.value in
     record {
-      value = sym (line_answered c.args.self.now c.line_end-end.result (Ok tt) c.if-self-text.false c.line_end-end.ensures.value c.in_ok-check_line.ensures.value);
-      after = line_moves c.args.self.now c.line_end-end.result (Ok tt) c.if-self-text.false c.line_end-end.ensures.value c.in_ok-check_line.ensures.value c.next_number-self.result c.behind_feed-self.result c.next_number-self.ensures (omega (arith, long, c.line_end-end.ensures.value, c.behind_feed-self.ensures));
+      value = sym (line_answered r rest n (Ok tt) c.if-self-text.false refl c.line_length-length.ensures c.in_ok-check_line.ensures.value);
+      after = line_moves r rest n (Ok tt) c.if-self-text.false refl c.line_length-length.ensures c.in_ok-check_line.ensures.value c.next_number-self.result (r.pos + (n + 1)) c.next_number-self.ensures (ap (λ k. r.pos + (k + 1)) (sym long));
     }
