@@ -3,3 +3,4 @@ pub mod Filled
 pub mod Grounds
 pub mod Halves
 pub mod Homes
+pub mod Values

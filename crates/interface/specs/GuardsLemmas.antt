@@ -1,11 +1,10 @@
 -- The laws of a guarded rule from those of its core: a failing record answers by its guard alone. Assumes nothing.
-use Rattle.std.proofs.Common.{◌≡◌, ℕ, Bool, true, false, cond, ◌&&◌, List, [], ◌∷◌, length, ℤ, is_ok, Some, None, Ok, refl, ap, arith}
+use Rattle.std.proofs.Common.{◌≡◌, ℕ, Bool, true, false, cond, ◌&&◌, List, [], ◌∷◌, length, ℤ, is_ok, Some, None, Ok, refl, ap}
 use Rattle.std.proofs.lemmas.Bool.{and_left, cond-false, false≢true}
 use Rattle.interface.specs.declared.cut.Cut.{Cut}
 use Rattle.interface.specs.declared.fault.RecordFault.{RecordFault}
 use Rattle.interface.specs.declared.reading.Reading.{Reading}
 use Rattle.interface.specs.declared.verdict.Verdict.TheVariants.{Nothing, All, Unknown}
-use Rattle.interface.specs.Answers.{verdict_number}
 use Rattle.interface.specs.Cuts.{Meets}
 use Rattle.interface.specs.Grounds.{first_fault}
 use Rattle.interface.specs.Readings.{Within, SumsOf}

@@ -1,12 +1,11 @@
--- Division rounded down, products with a range, and halves: a multiple of k moves in steps of k. Assumes nothing.
-use Rattle.std.proofs.Common.{◌≡◌, ℕ, zero, suc, ◌+◌, ◌/◌, ◌^◌, ◌<◌, ◌≤◌, cond, ℤ, pos, negsuc, ◌+ℤ◌, ◌-ℤ◌, ◌*ℤ◌, neg_ℤ, nat_abs, ◌≤ℤ◌, ◌<ℤ◌, ap, mod-lt, mul-le-mul, mul-le-mul_left, mul-suc, mul-add, arith}
+-- Division rounded down, and multiples of a number in a range: a multiple of k moves in steps of k. Assumes nothing.
+use Rattle.std.proofs.Common.{◌≡◌, ℕ, zero, suc, ◌+◌, ◌/◌, ◌<◌, ◌≤◌, cond, ℤ, pos, negsuc, ◌+ℤ◌, ◌-ℤ◌, ◌*ℤ◌, neg_ℤ, ◌≤ℤ◌, ◌<ℤ◌, ap, mod-lt, mul-le-mul_left, mul-suc, mul-add, arith}
 use native.Mathlib.Nat.{div-add-mod}
 use borrow.Author.Differences.{up, down, ints}
 use lib.Signed.{lt_z}
 use Rattle.std.specs.Int.{int_div_euclid, int_rem_euclid}
 use Rattle.std.proofs.lemmas.Int.{by_lt_z}
 use Rattle.std.proofs.lemmas.Bool.{cond-false, le-ltb}
-use Rattle.interface.specs.Numbers.{half}
 
 -- z is k times its quotient and the rest, and the rest is below k
 pub quotient_rest : (k : ℕ) → 0 < k → (z : ℤ) → (z ≡ (pos k *ℤ int_div_euclid z (pos k)) +ℤ int_rem_euclid z (pos k)) × (pos 0 ≤ℤ int_rem_euclid z (pos k)) × (int_rem_euclid z (pos k) <ℤ pos k)
@@ -45,17 +44,6 @@ rest_one k h z q r e low high =
     by_lt_z q (int_div_euclid z (pos k)) (λ below. let step = times_step k q (int_div_euclid z (pos k)) below in absurd (omega (arith, ints, d.0, d.1, e))) (λ le.
     let same : int_div_euclid z (pos k) ≡ q = omega (arith, ints) in
     omega (arith, ints, d.0, e, ap (λ j. pos k *ℤ j) same))
-
--- the half of z, rounded down
-pub half_is : (z : ℤ) → ((half z +ℤ half z) ≤ℤ z) × (z ≤ℤ (half z +ℤ half z +ℤ pos 1))
-half_is (pos a) = (omega (arith, ints), omega (arith, ints))
-half_is (negsuc a) = (omega (arith, ints), omega (arith, ints))
-
-pub product_bound : (k z : ℤ) → nat_abs k ≤ 2 ^ 7 → nat_abs z ≤ 2 ^ 31 → nat_abs (k *ℤ z) ≤ 2 ^ 38
-product_bound (pos a) (pos b) h l = mul-le-mul h l
-product_bound (pos a) (negsuc b) h l = omega (arith, ints, mul-le-mul h l)
-product_bound (negsuc a) (pos b) h l = omega (arith, ints, mul-le-mul h l)
-product_bound (negsuc a) (negsuc b) h l = mul-le-mul h l
 
 pub times_neg : (m q : ℤ) → m *ℤ neg_ℤ q ≡ neg_ℤ (m *ℤ q)
 times_neg m (pos zero) = omega (arith, ints)

@@ -3,8 +3,8 @@ use Rattle.std.proofs.Common.{◌≡◌, ℕ, ◌+◌, ◌*◌, ◌<◌, List, g
 use borrow.Author.Differences.{ints}
 use Rattle.interface.specs.declared.reading.Reading.{Reading}
 use Rattle.interface.specs.Readings.{limit_at, low_in, high_in, Within, SumsOf}
-use Rattle.rule_base.proofs.Integers.{half_is}
-use Rattle.rule_base.proofs.Values.{value_even, value_odd}
+use Rattle.interface.proofs.Halves.{half_is}
+use Rattle.interface.proofs.Values.{value_even, value_odd}
 
 module _ (g : Reading) (x : List ℤ) (a : ℕ) (on : a < g.n) where
   pub range_from : Within g x → low_in g a ≤ℤ get_or x a (pos 0)

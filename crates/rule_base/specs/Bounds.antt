@@ -1,5 +1,5 @@
 -- Bounds on one value as cuts. Assumes nothing.
-use Rattle.std.specs.Prelude.{ℕ, ◌+◌, ◌*◌, Bool, cond, ◌&&◌, ℤ, pos, ◌+ℤ◌, neg_ℤ, None, Option, int_le, int_lt}
+use Rattle.std.specs.Prelude.{ℕ, Bool, cond, ◌&&◌, ℤ, pos, ◌+ℤ◌, neg_ℤ, None, Option, int_le, int_lt}
 use Rattle.std.specs.Int.{int_max}
 use Rattle.interface.specs.declared.cut.Cut.{Cut}
 use Rattle.interface.specs.Cuts.{cut_of}

@@ -1,6 +1,7 @@
 -- The apart rule keeps its laws: the difference lies from the least to the greatest gap. Assumes nothing.
 use Rattle.std.specs.Prelude.{◌≡◌, ℕ, ◌+◌, ◌*◌, ◌<◌, ◌≤◌, Bool, true, false, cond, List, ℤ, pos, ◌-ℤ◌, neg_ℤ, ◌≤ℤ◌, Some, None, Ok, ◌==◌, ◌≢◌, int_lt, slice_index_or, refl}
 use Rattle.std.proofs.Common.{arith}
+use Rattle.std.specs.Int.{w32}
 use Rattle.std.proofs.lemmas.Int.{ints}
 use Rattle.std.proofs.lemmas.Bool.{leb-false}
 use Rattle.interface.specs.declared.cut.Cut.{Cut}
@@ -9,15 +10,14 @@ use Rattle.interface.specs.Cuts.{Meets}
 use Rattle.interface.specs.Readings.{Within, SumsOf}
 use Rattle.interface.specs.Rules.{RuleLaws}
 use Rattle.wire.specs.Frames.{FrameLaws, by_table, FitAll}
-use Rattle.wire.specs.Codecs.{by_table_laws}
+use Rattle.wire.specs.Codecs.{by_table_laws, fit_byte, fit_signed}
 use Rattle.rules.specs.declared.apart.ApartRule.{ApartRule}
 use Rattle.rules.specs.Aparts.{apart_codec, apart_core, apart_grounds, apart_cut, least_gap, greatest_gap, far, all_near, all_far}
 use Rattle.rule_base.specs.Bounds.{cut_at}
 use Rattle.interface.specs.Guards.{guarded, Clear, CoreLaws}
 use Rattle.rule_base.proofs.CutsMet.{cut_met}
-use Rattle.rule_base.proofs.Fits.{byte_fits, word_fits}
 use Rattle.interface.specs.GuardsLemmas.{clear_ok, guarded_laws}
-use Rattle.rule_base.proofs.Values.{value_even, value_odd}
+use Rattle.interface.proofs.Values.{value_even, value_odd}
 
 near_not_far : (d low high z : ℤ) → low ≤ℤ z → z ≤ℤ high → all_near d low high ≡ true → far d z ≡ false
 near_not_far d low high z h k e = grind (arith, ints)
@@ -93,7 +93,7 @@ fit n some few r ok =
     let a : r.a < n = leb-false _ _ h.0 in
     let b : r.b < n = leb-false _ _ h.1.0 in
     let d = h.1.1.1.0 in
-    (byte_fits 1 r.a (omega arith), (byte_fits 2 r.b (omega arith), (word_fits 3 r.d (grind (arith, ints)) (grind (arith, ints)), tt)))
+    (fit_byte 1 r.a (omega arith), (fit_byte 2 r.b (omega arith), (fit_signed 3 w32 r.d (grind (arith, ints)), tt)))
 
 pub apart_trips : FrameLaws (by_table apart_codec)
 apart_trips = by_table_laws apart_codec (record {

@@ -1,6 +1,7 @@
 -- The pair rule keeps its laws: the limits bound the sum from above, those of the opposite nodes from below. Assumes nothing.
 use Rattle.std.specs.Prelude.{◌≡◌, ℕ, ◌*◌, ◌<◌, ◌≤◌, Bool, true, false, List, ℤ, Some, None, Ok, ◌==◌, ◌≢◌, refl}
 use Rattle.std.proofs.Common.{arith}
+use Rattle.std.specs.Int.{w32}
 use Rattle.std.proofs.lemmas.Int.{ints}
 use Rattle.std.proofs.lemmas.Bool.{leb-false}
 use Rattle.interface.specs.declared.cut.Cut.{Cut}
@@ -10,14 +11,13 @@ use Rattle.interface.specs.Nodes.{opp}
 use Rattle.interface.specs.Readings.{Within, SumsOf}
 use Rattle.interface.specs.Rules.{RuleLaws}
 use Rattle.wire.specs.Frames.{FrameLaws, by_table, FitAll}
-use Rattle.wire.specs.Codecs.{by_table_laws}
+use Rattle.wire.specs.Codecs.{by_table_laws, fit_byte, fit_signed}
 use Rattle.rules.specs.declared.pair.PairRule.{PairRule}
 use Rattle.interface.specs.Guards.{guarded, Clear, CoreLaws}
 use Rattle.rules.specs.Pairs.{pair_codec, pair_core, pair_grounds, pair_none, pair_all, pair_meets, pair_cut}
 use Rattle.rule_base.proofs.CutsMet.{cut_met}
-use Rattle.rule_base.proofs.Fits.{byte_fits, word_fits}
 use Rattle.interface.specs.GuardsLemmas.{clear_ok, guarded_laws}
-use Rattle.rule_base.proofs.Values.{value_opp, opp_below}
+use Rattle.interface.proofs.Values.{value_opp, opp_below}
 
 none_meets : (r : PairRule) (g : Reading) → Clear (pair_grounds g.n r) → pair_none r g ≡ true → (x : List ℤ) → Within g x → pair_meets r x ≡ false
 none_meets r g ok e x w =
@@ -64,7 +64,7 @@ fit n some few r ok =
     let p : r.p < 2 * n = leb-false _ _ h.0 in
     let q : r.q < 2 * n = leb-false _ _ h.1.0 in
     let c = h.1.1.1.0 in
-    (byte_fits 1 r.p (omega arith), (byte_fits 2 r.q (omega arith), (word_fits 3 r.c (grind (arith, ints)) (grind (arith, ints)), tt)))
+    (fit_byte 1 r.p (omega arith), (fit_byte 2 r.q (omega arith), (fit_signed 3 w32 r.c (grind (arith, ints)), tt)))
 
 pub pair_trips : FrameLaws (by_table pair_codec)
 pair_trips = by_table_laws pair_codec (record {

@@ -2,7 +2,7 @@
 use Rattle.std.specs.Prelude.{◌≡◌, ℕ, ◌+◌, ◌*◌, ◌<◌, ◌≤◌, Bool, true, false, cond, List, ℤ, pos, negsuc, ◌+ℤ◌, ◌-ℤ◌, ◌*ℤ◌, neg_ℤ, ◌≤ℤ◌, ◌<ℤ◌, Some, None, Ok, ◌==◌, ◌≢◌, slice_index_or, refl}
 use Rattle.std.proofs.Common.{ap, ap₂, sym, ◌∙◌, arith}
 use Rattle.std.proofs.lemmas.Int.{ints}
-use Rattle.std.specs.Int.{int_div_euclid, int_rem_euclid}
+use Rattle.std.specs.Int.{int_div_euclid, int_rem_euclid, w32}
 use Rattle.std.proofs.lemmas.Bool.{leb-false, lt-ltb, cond-true, both_ways, and_parts}
 use Rattle.interface.specs.declared.cut.Cut.{Cut}
 use Rattle.interface.specs.declared.reading.Reading.{Reading}
@@ -10,17 +10,16 @@ use Rattle.interface.specs.Cuts.{Meets}
 use Rattle.interface.specs.Readings.{low_in, high_in, Within, SumsOf}
 use Rattle.interface.specs.Rules.{RuleLaws}
 use Rattle.wire.specs.Frames.{FrameLaws, by_table, FitAll}
-use Rattle.wire.specs.Codecs.{by_table_laws}
+use Rattle.wire.specs.Codecs.{by_table_laws, fit_byte, fit_signed}
 use Rattle.rules.specs.declared.step.StepRule.{StepRule}
 use Rattle.rule_base.specs.Bounds.{equal, bounded}
 use Rattle.interface.specs.Guards.{guarded, Clear, CoreLaws}
 use Rattle.rules.specs.Steps.{rest, step_codec, step_core, step_grounds, step_meets, leaves, last_up_to, first_from, Divides, LastUpTo, FirstFrom, none_leaves, one_leaves}
 use Rattle.rule_base.proofs.CutsMet.{bound_met}
-use Rattle.rule_base.proofs.Fits.{byte_fits, word_fits}
 use Rattle.interface.specs.GuardsLemmas.{clear_ok, guarded_laws}
 use Rattle.rule_base.proofs.Integers.{times_neg, quotient_rest, multiple_most, rest_one}
 use Rattle.rule_base.proofs.Ranges.{range_from, range_to, range_low, range_high}
-use Rattle.rule_base.proofs.Values.{value_even, value_odd}
+use Rattle.interface.proofs.Values.{value_even, value_odd}
 
 rest_is : (k : ℕ) → 0 < k → (z : ℤ) → rest (pos k) z ≡ int_rem_euclid z (pos k)
 unfolding rest
@@ -164,7 +163,7 @@ fit n some few r ok =
     let m : (pos 2 ≤ℤ r.m) × (r.m ≤ℤ pos 1000000) = grind (arith, ints) in
     let low = rest_low r n h in
     let high = rest_high r n h in
-    (byte_fits 1 r.a (omega arith), (word_fits 2 r.m (omega (arith, ints)) (omega (arith, ints)), (word_fits 6 r.r (omega (arith, ints)) (omega (arith, ints)), tt)))
+    (fit_byte 1 r.a (omega arith), (fit_signed 2 w32 r.m (omega (arith, ints)), (fit_signed 6 w32 r.r (omega (arith, ints)), tt)))
 
 pub step_trips : FrameLaws (by_table step_codec)
 step_trips = by_table_laws step_codec (record {

@@ -2,7 +2,7 @@
 use Rattle.std.specs.Prelude.{◌≡◌, ℕ, suc, ◌+◌, ◌*◌, ◌<◌, ◌≤◌, Bool, true, false, cond, not, List, ℤ, pos, negsuc, ◌+ℤ◌, neg_ℤ, ◌≤ℤ◌, Some, None, Ok, ◌==◌, ◌≢◌, int_le, int_lt, slice_index_or, unsigned_abs, refl}
 use Rattle.std.proofs.Common.{ap, arith}
 use Rattle.std.proofs.lemmas.Int.{ints}
-use Rattle.std.specs.Int.{int_div_euclid}
+use Rattle.std.specs.Int.{int_div_euclid, w8, w32}
 use Rattle.std.proofs.lemmas.Bool.{leb-false, cond-false, le-ltb, not-false, or_parts, and_parts}
 use Rattle.interface.specs.declared.cut.Cut.{Cut}
 use Rattle.interface.specs.declared.reading.Reading.{Reading}
@@ -12,18 +12,17 @@ use Rattle.interface.specs.Numbers.{within}
 use Rattle.interface.specs.Readings.{Within, SumsOf}
 use Rattle.interface.specs.Rules.{RuleLaws}
 use Rattle.wire.specs.Frames.{FrameLaws, by_table, FitAll}
-use Rattle.wire.specs.Codecs.{by_table_laws}
+use Rattle.wire.specs.Codecs.{by_table_laws, fit_byte, fit_signed}
 use Rattle.sum_rule.specs.declared.sum.SumRule.{SumRule}
 use Rattle.sum_rule.specs.declared.sum.Term.{Term}
 use Rattle.rule_base.specs.Bounds.{equal, bounded}
 use Rattle.interface.specs.Guards.{guarded, Clear, CoreLaws}
 use Rattle.sum_rule.specs.Sums.{times, wrong_number, sum_codec, sum_core, sum_grounds, sum_meets, sum_none, sum_all, term_cut, left_for, is_empty, term_at, least_of, greatest_of}
 use Rattle.rule_base.proofs.CutsMet.{bound_met}
-use Rattle.rule_base.proofs.Fits.{byte_fits, small_fits, word_fits}
 use Rattle.interface.specs.GuardsLemmas.{clear_ok, guarded_laws}
 use Rattle.rule_base.proofs.Integers.{times_neg, floor_most, least_at, greatest_at}
 use Rattle.rule_base.proofs.Ranges.{range_from, range_to, range_low, range_high}
-use Rattle.rule_base.proofs.Values.{value_even, value_odd}
+use Rattle.interface.proofs.Values.{value_even, value_odd}
 
 end_same : (b : Bool) (y z v : ℤ) → y ≡ v → z ≡ v → cond b y z ≡ v
 end_same true y z v e f = e
@@ -138,18 +137,18 @@ fit n some few r ok =
     let j = right r.second numbers.1.0 in
     let k = right r.third numbers.1.1.0 in
     let t = and_parts (int_le (neg_ℤ (pos 300000000)) r.t) _ (not-false _ numbers.1.1.1.0) in (
-      byte_fits 1 _ (omega arith),
+      fit_byte 1 _ (omega arith),
       (
-        small_fits 2 _ i.0 i.1,
+        fit_signed 2 w8 _ (omega (arith, ints, i.0, i.1)),
         (
-          byte_fits 3 _ (omega arith),
+          fit_byte 3 _ (omega arith),
           (
-            small_fits 4 _ j.0 j.1,
+            fit_signed 4 w8 _ (omega (arith, ints, j.0, j.1)),
             (
-              byte_fits 5 _ (omega arith),
+              fit_byte 5 _ (omega arith),
               (
-                small_fits 6 _ k.0 k.1,
-                (word_fits 7 _ (omega (arith, ints, t.0)) (omega (arith, ints, t.1)), tt),
+                fit_signed 6 w8 _ (omega (arith, ints, k.0, k.1)),
+                (fit_signed 7 w32 _ (omega (arith, ints, t.0, t.1)), tt),
               ),
             ),
           ),

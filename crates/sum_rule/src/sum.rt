@@ -103,6 +103,7 @@ impl Term {
     }
 }
 
+// Term by term: summing an array of signed numbers leaves the bound of the total open.
 impl SumRule {
     fn total_at(&self, point: &Point) -> i64
         ensures { result ≡ three (term_at (values_of point.now)) self.now }
