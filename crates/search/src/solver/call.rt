@@ -22,6 +22,7 @@ impl<S: Shape> Solver<S> {
         ensures answers { answered_with result self.new lent.new ≡ answer S.model R.model (world_with self.old lent.old) lent.old.out.now request }
         ensures same_slices { SameSlices lent.old lent.new }
     {
+        // A slice that a call only reads is borrowed under a name first: the check does not follow a field lent as `&[T]`.
         match request {
             Request::State(rule) => self.state(lent.rules, rule)?,
             Request::Mark => self.mark(lent.checkpoints)?,
