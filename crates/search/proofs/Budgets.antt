@@ -1,5 +1,5 @@
 -- A run with some steps left ends here, or is a step and then a run with one step fewer. Assumes nothing.
-use Rattle.std.proofs.Common.{◌≡◌, ℕ, zero, suc, ◌+◌, ◌-◌, ◌<◌, ◌≤◌, false, cond, eqb, List, Ok, Err, Result, sym, refl, ap, ◌∙◌, arith}
+use Rattle.std.proofs.Common.{◌≡◌, ℕ, zero, suc, ◌+◌, ◌-◌, ◌<◌, false, cond, eqb, List, Ok, Err, Result, sym, ap, ◌∙◌, arith}
 use Rattle.interface.specs.Rules.{RuleModel}
 use Rattle.interface.specs.Shapes.{ShapeModel}
 use Rattle.search_theory.specs.declared.outcome.Outcome.{Outcome}

@@ -1,12 +1,11 @@
 -- What is left of the rounds gives the result, and a region that is not open stays as it is. Assumes nothing.
 use Rattle.std.proofs.Common.{◌≡◌, ℕ, zero, suc, ◌+◌, ◌-◌, ◌<◌, ◌≤◌, Bool, true, false, cond, List, [], ◌∷◌, length, get_or, drop, sym, refl, ap, ◌∙◌, ap₂, arith}
 use Rattle.std.specs.List.{range_with_len}
-use Rattle.std.proofs.lemmas.List.{at_drop_all}
+use Rattle.std.proofs.lemmas.List.{at_drop_all, at_drop_more}
 use Rattle.interface.specs.declared.reading.Reading.{Reading}
 use Rattle.interface.specs.Rules.{RuleModel}
 use Rattle.interface.specs.Shapes.{ShapeModel}
 use Rattle.search_theory.specs.Regions.{is_open, cut_if_any, read, same_limits, tighten, by_cuts, by_rules, by_rounds, refine}
-use Rattle.search.proofs.Items.{at_item}
 
 either_way : {X : Type 0} (b : Bool) (x y z : X) → x ≡ z → y ≡ z → cond b x y ≡ z
 either_way true x y z e f = e
@@ -36,7 +35,7 @@ module _ {S R : Type 0} (M : ShapeModel S) (K : RuleModel R) where
   cuts_end r i h s = let e : 3 - i ≡ 0 = omega arith in ap (λ n. by_cuts M K r (range_with_len i n) s) e
 
   pub rules_more : (rs : List R) (j : ℕ) (r : R) → j < length rs → r ≡ get_or rs j r → (s t : S) → t ≡ by_cuts M K r (range_with_len 0 3) s → by_rules M K (drop j rs) s ≡ by_rules M K (drop (j + 1) rs) t
-  rules_more rs j r h e s t f = at_item (λ qs. by_rules M K qs s) rs j r h e ∙ ap (by_rules M K (drop (j + 1) rs)) (sym f)
+  rules_more rs j r h e s t f = at_drop_more (λ qs. by_rules M K qs s) rs j r h ∙ ap (λ q. by_rules M K (q ∷ drop (j + 1) rs) s) (sym e) ∙ ap (by_rules M K (drop (j + 1) rs)) (sym f)
 
   pub rules_end : (rs : List R) (j : ℕ) → length rs ≤ j → (s : S) → by_rules M K (drop j rs) s ≡ s
   rules_end rs j h s = at_drop_all (λ qs. by_rules M K qs s) rs j h

@@ -26,11 +26,9 @@ fn judge_all<R: Rule>(rules: &[R], reading: &Reading) -> Verdict
     verdict
 }
 
-// Dropped where no point of the region meets the rules, handed out where every one does and one is offered, else split.
-#[tactic(auto, using(crate::proofs::Extents::same_void))]
-pub fn classify<S: Shape, R: Rule>(rules: &[R], shape: &S) -> Fate
-    ensures value { result ≡ classify S.model R.model rules.now shape.now }
-    ensures truth { Classified S.model R.model rules.now shape.now result }
+// Apart from `classify`, so that what a fate means is proved from this equation once, and not at each way out.
+fn fate<S: Shape, R: Rule>(rules: &[R], shape: &S) -> Fate
+    ensures { result ≡ classify S.model R.model rules.now shape.now }
 {
     if shape.extent() == Extent::Void {
         return Fate::Dropped;
@@ -40,4 +38,12 @@ pub fn classify<S: Shape, R: Rule>(rules: &[R], shape: &S) -> Fate
         Verdict::Unknown => Fate::Split,
         Verdict::All => shape.offer().map_or(Fate::Split, Fate::HandedOut),
     }
+}
+
+// Dropped where no point of the region meets the rules, handed out where every one does and one is offered, else split.
+pub fn classify<S: Shape, R: Rule>(rules: &[R], shape: &S) -> Fate
+    ensures value { result ≡ classify S.model R.model rules.now shape.now }
+    ensures truth { Classified S.model R.model rules.now shape.now result }
+{
+    fate(rules, shape)
 }

@@ -71,6 +71,7 @@ impl<S: Shape> Work<'_, S> {
                 return (outcome, steps);
             }
         }
+        // the last step may have left nothing: done comes before spent
         let outcome = if self.waiting == 0 {
             Outcome::Done
         } else {

@@ -17,17 +17,15 @@ use search_theory::region::Region;
 use search_theory::report::Report;
 
 impl<S: Shape> Solver<S> {
-    // Takes waiting regions step by step, at most `budget` of them, and puts what is handed out in the out slice from its front.
-    pub fn run<R: Rule>(
+    // Apart from `run`, whose laws and portions are proved from this equation.
+    pub(super) fn run_any<R: Rule>(
         &mut self,
         rules: &[R],
         stack: &mut [S],
         out: &mut [Region<S>],
         budget: u32,
     ) -> Result<Report, SolverFault>
-        ensures answers { left result (view self.new) (stack.new, out.new) ≡ run_call S.model R.model (view self.old) rules.now stack.old out.old budget }
-        ensures laws { RunLaws S.model R.model (view self.old) rules.now stack.old out.old budget (left result (view self.new) (stack.new, out.new)) }
-        ensures portions { InPortions S.model R.model (view self.old) rules.now stack.old budget (left result (view self.new) (stack.new, out.new)) }
+        ensures { left result (view self.new) (stack.new, out.new) ≡ run_call S.model R.model (view self.old) rules.now stack.old out.old budget }
     {
         self.at(Phase::Searching)?;
         long_enough(rules, self.rules)?;
@@ -48,5 +46,20 @@ impl<S: Shape> Solver<S> {
             count: work.count,
             found: work.found,
         })
+    }
+
+    // Takes waiting regions step by step, at most `budget` of them, and puts what is handed out in the out slice from its front.
+    pub fn run<R: Rule>(
+        &mut self,
+        rules: &[R],
+        stack: &mut [S],
+        out: &mut [Region<S>],
+        budget: u32,
+    ) -> Result<Report, SolverFault>
+        ensures answers { left result (view self.new) (stack.new, out.new) ≡ run_call S.model R.model (view self.old) rules.now stack.old out.old budget }
+        ensures laws { RunLaws S.model R.model (view self.old) rules.now stack.old out.old budget (left result (view self.new) (stack.new, out.new)) }
+        ensures portions { InPortions S.model R.model (view self.old) rules.now stack.old budget (left result (view self.new) (stack.new, out.new)) }
+    {
+        self.run_any(rules, stack, out, budget)
     }
 }

@@ -1,11 +1,10 @@
 -- The three loops together are the model's rounds; each way out of them gives the same region, which narrows a made one.
-use Rattle.std.proofs.Common.{◌≡◌, List, arith, sym, subst, ◌∙◌}
+use Rattle.std.proofs.Common.{◌≡◌, List, rules, sym, subst, ◌∙◌}
 use Rattle.interface.specs.Rules.{RuleModel, RuleLaws}
 use Rattle.interface.specs.Shapes.{ShapeModel, ShapeLaws}
 use Rattle.search_theory.specs.RegionLaws.{Refined}
 use Rattle.search_theory.specs.Regions.{refine}
 use Rattle.search_theory.proofs.Refining.{refined}
-use Rattle.search.proofs.Extents.{same_open}
 use Rattle.search.proofs.Rounds.{cuts_more, rules_end, rounds_start, rounds_more, rounds_end, rounds_left}
 use Rattle.search.proofs.refine.refine.Goals as goal
 
@@ -25,7 +24,7 @@ rounds-preserved g c = (
 )
 
 pub returns-then-ne-clause-value : goal.returns-then-ne-clause-value
-returns-then-ne-clause-value g c = sym (rounds_left g.S.Shape.model g.R.Rule.model c.args.rules.now c.rounds._round c.rounds-test.true c.rules.rule-index c.rule-item.result c.rules-test.true c.rule-item.is c.cuts.i c.rounds.region c.rules.region c.cuts.region c.rules.invariant.1 c.cuts.invariant.1 (grind (arith, same_open))) ∙ c.rounds.invariant.1
+returns-then-ne-clause-value g c = sym (rounds_left g.S.Shape.model g.R.Rule.model c.args.rules.now c.rounds._round c.rounds-test.true c.rules.rule-index c.rule-item.result c.rules-test.true c.rule-item.is c.cuts.i c.rounds.region c.rules.region c.cuts.region c.rules.invariant.1 c.cuts.invariant.1 (search rules)) ∙ c.rounds.invariant.1
 
 pub returns-then-ne-clause-narrows : goal.returns-then-ne-clause-narrows
 returns-then-ne-clause-narrows g c = narrowed g.met.S.Shape.laws g.met.R.Rule.laws c.args.rules.now c.args.shape c.cuts.region (returns-then-ne-clause-value g c)
