@@ -1,5 +1,5 @@
-// Digests of a shape's answers: numbers that tell most lists of answers apart, for programs that compare a shape with
-// one that lists its points instead.
+// The digest of a shape's answers: one number that mixes them all, in order, so that a program's short output can be held
+// to one that lists points instead.
 #![tactic(auto)]
 
 ghost use Rattle.std.specs.Prelude.{◌≡◌, pos, ◌-ℤ◌, map};
@@ -33,6 +33,7 @@ fn mixed(digest: u64, x: i32) -> u64
     (digest % 1_000_003 * 31 + (i64::from(x) + 3_000_000_000) as u64) % 1_000_003
 }
 
+// Whether each point is held.
 fn held<S: Shape>(s: &S, points: &[Point], digest: u64) -> u64
     ensures { result ≡ mixed_all digest (held_numbers S.model s.now points.now) }
 {
@@ -42,6 +43,7 @@ fn held<S: Shape>(s: &S, points: &[Point], digest: u64) -> u64
         .fold(digest, mixed)
 }
 
+// The point that the shape offers, or -1.
 fn offered<S: Shape>(s: &S, digest: u64) -> u64
     ensures { result ≡ mixed_all digest (offer_numbers (S.model.offer s.now)) }
 {
@@ -55,18 +57,21 @@ fn offered<S: Shape>(s: &S, digest: u64) -> u64
     }
 }
 
+// The limits of one node with each other.
 fn row<S: Shape>(s: &S, p: u8, nodes: u8, digest: u64) -> u64
     ensures { result ≡ mixed_all digest (map (λ q. S.model.limit s.now p q) (range_with_len 0 nodes)) }
 {
     (0..nodes).map(|q| s.limit(p, q)).fold(digest, mixed)
 }
 
+// The limit of each two nodes.
 fn limits<S: Shape>(s: &S, nodes: u8, digest: u64) -> u64
     ensures { result ≡ mixed_all digest (limit_numbers S.model s.now nodes) }
 {
     (0..nodes).fold(digest, |digest, p| row(s, p, nodes, digest))
 }
 
+// The low and the high of each setting.
 fn ranges<S: Shape>(s: &S, settings: u8, digest: u64) -> u64
     ensures { result ≡ mixed_all digest (range_numbers S.model s.now settings) }
 {

@@ -37,7 +37,9 @@ fn draw_home(seed: &mut u64) -> Home {
 
 // A cut between nodes of a line, or none where the nodes are opposite.
 fn draw_cut(seed: &mut u64, n: u8, size: u32) -> Option<Cut>
-    requires { (0 < n) × ((n ≤ 8) × (size ≤ 1000000)) }
+    requires some_node { 0 < n }
+    requires on_line { n ≤ 8 }
+    requires small { size ≤ 1000000 }
 {
     let p = draw(seed, 2 * n as u32) as u8;
     let q = draw(seed, 2 * n as u32) as u8;

@@ -7,7 +7,6 @@ use interface::shape::Shape;
 use intervals::interval_box::IntervalBox;
 use rules::any::AnyRule;
 use rules::apart::ApartRule;
-use rules::joined::Joined;
 use rules::step::StepRule;
 use search::solver::Solver;
 use search_theory::region::Region;
@@ -43,9 +42,9 @@ fn rules() -> [AnyRule; 3] {
         t: 12,
     };
     [
-        Joined::Second(Joined::Second(Joined::First(apart))),
-        Joined::Second(Joined::Second(Joined::Second(step))),
-        Joined::Second(Joined::First(sum)),
+        AnyRule::from(apart),
+        AnyRule::from(step),
+        AnyRule::from(sum),
     ]
 }
 
