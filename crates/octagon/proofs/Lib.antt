@@ -1,1 +1,2 @@
 pub mod Defined
+pub mod FromFn
