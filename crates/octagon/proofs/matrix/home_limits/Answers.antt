@@ -1,6 +1,8 @@
-use Rattle.std.proofs.Common.{rules}
-use Rattle.octagon.proofs.FromFn.{listed_made}
+use Rattle.std.proofs.Common.{◌/◌, ◌%◌, pos, rules}
+use Rattle.interface.proofs.Filled.{filled}
+use Rattle.octagon.specs.Entries.{home_limit, listed}
 use Rattle.octagon.proofs.matrix.home_limits.Goals as goal
 
 pub returns : goal.returns
-returns c = listed_made _ _ _ _ 256 c.from_fn.ensures.items (λ i y q k. search rules)
+unfolding listed
+returns c = filled _ (λ k. home_limit c.args.home.now (k / 16) (k % 16)) (pos 0) _ (λ k y q called. search rules) c.from_fn.ensures.items
