@@ -16,12 +16,12 @@ abbrev pub at : List ℤ → ℕ → ℕ → ℤ
 at l p q = slice_index_or l (16 * p + q) (pos 0)
 
 -- the list of f at the numbers below m
-unfoldable pub listed : (ℕ → ℤ) → ℕ → List ℤ
+unfoldable pub listed : {X : Type 0} → (ℕ → X) → ℕ → List X
 listed f m = map f (range_with_len 0 m)
 
 -- the list of the entries f p q
-unfoldable pub tabled : (ℕ → ℕ → ℤ) → List ℤ
-tabled f = map (λ k. f (k / 16) (k % 16)) (range_with_len 0 256)
+abbrev pub tabled : (ℕ → ℕ → ℤ) → List ℤ
+tabled f = listed (λ k. f (k / 16) (k % 16)) 256
 
 -- the greatest v(p) at home
 abbrev pub top : Home → ℕ → ℤ
@@ -44,10 +44,6 @@ over_cut x to-b y to-a = int_min (plus x to-b) (plus y to-a)
 -- the shortest way from i to j
 abbrev pub crossed : List ℤ → ℕ → ℕ → ℤ → ℕ → ℕ → ℤ
 crossed l a b c i j = int_min (at l i j) (over_cut (way l a b c i) (at l b j) (way l b a c i) (at l a j))
-
--- the least of four: the entry, the two ways over the cut, and the two halves joined
-abbrev pub lowest : ℤ → ℤ → ℤ → ℤ → ℤ → ℤ → ℤ → ℤ
-lowest l x to-b y to-a h g = int_min (int_min l (over_cut x to-b y to-a)) (plus h g)
 
 -- half the way from i to itself, rounded down
 abbrev pub halved : List ℤ → ℕ → ℕ → ℤ → ℕ → ℤ

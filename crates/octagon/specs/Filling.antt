@@ -1,45 +1,33 @@
 -- A row that is lowered place by place, and a matrix row by row. Assumes nothing.
 use Rattle.std.specs.Prelude.{◌≡◌, ℕ, ◌+◌, ◌*◌, ◌/◌, ◌%◌, ◌<◌, ◌≤◌, min, cond, ◌&&◌, ◌⊎◌, List, length, get_or, ℤ, pos, ◌==◌, ◌≢◌, nat_lt, slice_index_or, slice_set}
-use Rattle.std.proofs.Common.{inl, inr, ◌∙◌, arith, length-set}
+use Rattle.std.specs.Int.{int_min}
+use Rattle.interface.specs.Numbers.{half}
+use Rattle.octagon.specs.Crossings.{crossing, shortest_by, half_by, joined_by}
+use Rattle.std.proofs.Common.{inl, inr, ◌∙◌, arith}
 use Rattle.std.proofs.Math.Path.{sym, ap}
 use Rattle.std.proofs.lemmas.List.FromFn.{fill_by_all, get_or-map-range_with_len, length-map-range_with_len}
-use Rattle.std.proofs.lemmas.List.Edits.{fill_by_more}
 use Rattle.std.proofs.lemmas.List.{get_or-set_same, get_or-set_other}
 use Rattle.std.proofs.lemmas.Bool.{cases_eq, cases_lt, lt-ltb, le-ltb, eq-eqb, ne_eqb, cond-true, cond-false, and_from, and_left, and_right}
 use Rattle.std.proofs.lemmas.Bool.Decides.{nat_tests}
-use Rattle.octagon.specs.Entries.{at, listed, tabled, way, halved, lowest, lowered_entry, lowered, RowLowered, RowsLowered}
-
--- the first i places of xs hold what f says
-abbrev pub Filled : (ℕ → ℤ) → ℕ → ℕ → List ℤ → Type 0
-Filled f m i xs = (length xs ≡ m) × ((t : ℕ) → t < i → slice_index_or xs t (pos 0) ≡ f t)
-
-pub filled_none : (f : ℕ → ℤ) (m : ℕ) (xs : List ℤ) → length xs ≡ m → Filled f m 0 xs
-filled_none f m xs e = (e, λ t h. absurd (omega arith))
-
-pub filled_more : (f : ℕ → ℤ) (m i : ℕ) (xs : List ℤ) (v : ℤ) → i < m → v ≡ f i → Filled f m i xs → Filled f m (i + 1) (slice_set xs i v)
-filled_more f m i xs v h e filled = (length-set xs i v ∙ filled.0, λ t k. ap (λ w. get_or (slice_set xs i w) t (pos 0)) e ∙ fill_by_more f xs i (pos 0) (omega (arith, filled.0)) filled.1 t k)
-
-pub filled_all : (f : ℕ → ℤ) (m : ℕ) (xs : List ℤ) → Filled f m m xs → xs ≡ listed f m
-unfolding listed
-filled_all f m xs filled = fill_by_all f xs m (pos 0) filled.0 filled.1
+use Rattle.octagon.specs.Entries.{plus, at, listed, tabled, way, over_cut, halved, lowered_entry, lowered, RowLowered, RowsLowered}
 
 pub getD_listed : (f : ℕ → ℤ) (m i : ℕ) → i < m → slice_index_or (listed f m) i (pos 0) ≡ f i
 unfolding listed
 getD_listed f m i h = get_or-map-range_with_len f 0 m i i (pos 0) h (omega arith)
 
 pub length_tabled : (f : ℕ → ℕ → ℤ) → length (tabled f) ≡ 256
-unfolding tabled
+unfolding listed
 length_tabled f = length-map-range_with_len (λ k. f (k / 16) (k % 16)) 0 256
 
 pub at_tabled : (f : ℕ → ℕ → ℤ) (p q : ℕ) → p < 16 → q < 16 → at (tabled f) p q ≡ f p q
-unfolding tabled
+unfolding listed
 at_tabled f p q h k =
     let d : (16 * p + q) / 16 ≡ p = omega arith in
     let r : (16 * p + q) % 16 ≡ q = omega arith in
     get_or-map-range_with_len (λ k. f (k / 16) (k % 16)) 0 256 (16 * p + q) (16 * p + q) (pos 0) (omega arith) (omega arith) ∙ ap (λ x. f x ((16 * p + q) % 16)) d ∙ ap (f p) r
 
 pub tabled_from : (f : ℕ → ℕ → ℤ) (xs : List ℤ) → length xs ≡ 256 → ((p q : ℕ) → p < 16 → q < 16 → at xs p q ≡ f p q) → xs ≡ tabled f
-unfolding tabled
+unfolding listed
 tabled_from f xs e h = fill_by_all (λ k. f (k / 16) (k % 16)) xs 256 (pos 0) e (λ k b. (let s : 16 * (k / 16) + k % 16 ≡ k = omega arith in ap (λ t. get_or xs t (pos 0)) (sym s)) ∙ h (k / 16) (k % 16) (omega arith) (omega arith))
 
 -- one more place of row i
@@ -59,24 +47,28 @@ module _ (before : List ℤ) (a b : ℕ) (c : ℤ) where
   pub rows_none : (m : ℕ) → RowsLowered before before a b c 0 m
   rows_none m p q k l = sym (cond-false _ _ _ (and_left (nat_lt p 0) (nat_lt q m) (le-ltb p 0 (omega arith))))
 
-  pub rows_more : (xs ys : List ℤ) (i m : ℕ) (to-a to-b by-a by-b mid : List ℤ) → to-a ≡ listed (at before a) 16 → to-b ≡ listed (at before b) 16 → by-a ≡ listed (way before b a c) 16 → by-b ≡ listed (way before a b c) 16 → mid ≡ listed (halved before a b c) 16 → i < 16 → RowsLowered xs before a b c i m → RowLowered ys xs i m (λ q e. lowest e (slice_index_or by-b i (pos 0)) (slice_index_or to-b q (pos 0)) (slice_index_or by-a i (pos 0)) (slice_index_or to-a q (pos 0)) (slice_index_or mid i (pos 0)) (slice_index_or mid q (pos 0))) → RowsLowered ys before a b c (i + 1) m
-  unfolding lowered_entry
-  rows_more xs ys i m to-a to-b by-a by-b mid ea eb ya xb em on done row p q k l = by (cases_eq p i) (cases_lt q m)
+  pub rows_more : (xs ys : List ℤ) (i m : ℕ) (f : ℕ → ℤ → ℤ) → ((q : ℕ) → q < 16 → f q (at before i q) ≡ lowered_entry before a b c i q) → RowsLowered xs before a b c i m → RowLowered ys xs i m f → RowsLowered ys before a b c (i + 1) m
+  rows_more xs ys i m f says done row p q k l = by (cases_eq p i) (cases_lt q m)
     where
-      read : (f : ℕ → ℤ) (zs : List ℤ) → zs ≡ listed f 16 → (j : ℕ) → j < 16 → slice_index_or zs j (pos 0) ≡ f j
-      read f zs e j b = ap (λ l. get_or l j (pos 0)) e ∙ getD_listed f 16 j b
-
-      same : lowest (at xs p q) (slice_index_or by-b i (pos 0)) (slice_index_or to-b q (pos 0)) (slice_index_or by-a i (pos 0)) (slice_index_or to-a q (pos 0)) (slice_index_or mid i (pos 0)) (slice_index_or mid q (pos 0)) ≡ lowest (at xs p q) (way before a b c i) (at before b q) (way before b a c i) (at before a q) (halved before a b c i) (halved before a b c q)
-      same = let e₁ = read (way before a b c) by-b xb i on in let e₂ = read (at before b) to-b eb q l in let e₃ = read (way before b a c) by-a ya i on in let e₄ = read (at before a) to-a ea q l in let e₅ = read (halved before a b c) mid em i on in let e₆ = read (halved before a b c) mid em q l in λ t. lowest (at xs p q) (e₁ t) (e₂ t) (e₃ t) (e₄ t) (e₅ t) (e₆ t)
-
       by : (p ≡ i) ⊎ (p ≢ i) → (q < m) ⊎ (m ≤ q) → at ys p q ≡ cond (nat_lt p (i + 1) && nat_lt q m) (lowered_entry before a b c p q) (at before p q)
       by (inl r) (inl u) =
           let old : at xs p q ≡ at before p q = done p q k l ∙ cond-false _ _ _ (and_left (nat_lt p i) (nat_lt q m) (le-ltb p i (omega arith))) in
-          row p q k l ∙ cond-true (p == i && nat_lt q m) _ _ (and_from _ _ (eq-eqb p i r) (lt-ltb q m u)) ∙ same ∙ ap (λ e. lowest e (way before a b c i) (at before b q) (way before b a c i) (at before a q) (halved before a b c i) (halved before a b c q)) old ∙ ap (λ x. lowest (at before p q) (way before a b c x) (at before b q) (way before b a c x) (at before a q) (halved before a b c x) (halved before a b c q)) (sym r) ∙ sym (cond-true (nat_lt p (i + 1) && nat_lt q m) _ _ (and_from _ _ (lt-ltb p (i + 1) (omega arith)) (lt-ltb q m u)))
+          row p q k l ∙ cond-true (p == i && nat_lt q m) _ _ (and_from _ _ (eq-eqb p i r) (lt-ltb q m u)) ∙ ap (f q) (old ∙ ap (λ x. at before x q) r) ∙ says q l ∙ ap (λ x. lowered_entry before a b c x q) (sym r) ∙ sym (cond-true (nat_lt p (i + 1) && nat_lt q m) _ _ (and_from _ _ (lt-ltb p (i + 1) (omega arith)) (lt-ltb q m u)))
       by (inl r) (inr u) =
           row p q k l ∙ cond-false (p == i && nat_lt q m) _ _ (and_right (p == i) (nat_lt q m) (le-ltb q m u)) ∙ done p q k l ∙ cond-false _ _ _ (and_right (nat_lt p i) (nat_lt q m) (le-ltb q m u)) ∙ sym (cond-false _ _ _ (and_right (nat_lt p (i + 1)) (nat_lt q m) (le-ltb q m u)))
       by (inr r) u =
           row p q k l ∙ cond-false (p == i && nat_lt q m) _ _ (and_left (p == i) (nat_lt q m) (ne_eqb p i r)) ∙ done p q k l ∙ ap (λ z. cond (z && nat_lt q m) (lowered_entry before a b c p q) (at before p q)) (grind (arith, nat_tests))
+
+  -- what is read off before the cut gives the entry that it leaves
+  crossing_is : (i j : ℕ) (e : ℤ) → i < 16 → j < 16 → shortest_by (crossing before a b c) e i j ≡ int_min e (over_cut (way before a b c i) (at before b j) (way before b a c i) (at before a j))
+  crossing_is i j e g h = let x = getD_listed (way before a b c) 16 i g in let y = getD_listed (at before b) 16 j h in let z = getD_listed (way before b a c) 16 i g in let w = getD_listed (at before a) 16 j h in λ t. int_min e (over_cut (x t) (y t) (z t) (w t))
+
+  half_is : (i : ℕ) → i < 16 → slice_index_or (listed (half_by (crossing before a b c) before) 16) i (pos 0) ≡ halved before a b c i
+  half_is i h = getD_listed (half_by (crossing before a b c) before) 16 i h ∙ ap half (crossing_is i i (at before i i) h h)
+
+  pub joined_is : (i j : ℕ) → i < 16 → j < 16 → joined_by (crossing before a b c) (listed (half_by (crossing before a b c) before) 16) i j (at before i j) ≡ lowered_entry before a b c i j
+  unfolding lowered_entry
+  joined_is i j g h = let x = crossing_is i j (at before i j) g h in let y = half_is i g in let z = half_is j h in λ t. int_min (x t) (plus (y t) (z t))
 
   pub rows_all : (n : ℕ) (xs : List ℤ) → length xs ≡ 256 → RowsLowered xs before a b c (min 16 (2 * n)) (min 16 (2 * n)) → xs ≡ lowered n before a b c
   unfolding lowered

@@ -1,4 +1,5 @@
 pub mod Entries
+pub mod Crossings
 pub mod Ranges
 pub mod Octagons
 pub mod Definitions

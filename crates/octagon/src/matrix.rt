@@ -1,14 +1,15 @@
 // The octagon: a matrix of limits, made from a home and cut.
-ghost use Rattle.std.specs.Prelude.{◌≡◌, ◌*◌, ◌<◌, neg_ℤ};
-ghost use Rattle.std.specs.Int.{int_wrap, w32};
+ghost use Rattle.std.specs.Prelude.{◌≡◌, ◌<◌};
 ghost use Rattle.octagon.specs.Entries.{tabled, top, home_limit};
-ghost use Rattle.octagon.specs.Octagons.{started, limit_at, idle, unmet, cutting, cut_to};
+ghost use Rattle.octagon.specs.Octagons.{started, limit_at, idle, unmet, cut_to};
 
 use super::lowering::{lower, nodes, sum};
 use interface::home::Home;
 use interface::node::opposite;
+use std::array;
 
 // The limit (p, q) stands at 16 p + q: 0 where a node is 2n or above, for opposite nodes, and on a void octagon.
+// `void` is a field and no Option of the limits: a void octagon answers each question too, with 0 for a limit.
 #[derive(Clone, Copy)]
 pub struct Octagon {
     pub(crate) n: u8,
@@ -16,13 +17,8 @@ pub struct Octagon {
     pub(crate) limits: [i32; 256],
 }
 
-fn negated(a: i32) -> i32
-    ensures { result ≡ int_wrap w32 (neg_ℤ a) }
-{
-    a.wrapping_neg()
-}
-
 // The greatest v(p) at home.
+#[tactic(auto, using(std::proofs::lemmas::Int::wraps))]
 fn top_at(home: &Home, p: u8) -> i32
     requires { p < 16 }
     ensures { result ≡ top home.now p }
@@ -30,7 +26,7 @@ fn top_at(home: &Home, p: u8) -> i32
     if p % 2 == 0 {
         home.highs[p as usize / 2]
     } else {
-        negated(home.lows[p as usize / 2])
+        home.lows[p as usize / 2].wrapping_neg()
     }
 }
 
@@ -48,11 +44,7 @@ fn home_limit_at(home: &Home, p: u8, q: u8) -> i32
 fn home_limits(home: &Home) -> [i32; 256]
     ensures { result ≡ tabled (home_limit home.now) }
 {
-    let mut limits = [0i32; 256];
-    for k in 0..256usize {
-        limits[k] = home_limit_at(home, (k / 16) as u8, (k % 16) as u8);
-    }
-    limits
+    array::from_fn(|k| home_limit_at(home, (k / 16) as u8, (k % 16) as u8))
 }
 
 impl Octagon {
@@ -64,12 +56,6 @@ impl Octagon {
             void: false,
             limits: home_limits(home),
         }
-    }
-
-    pub(crate) fn settings(&self) -> u8
-        ensures { result ≡ self.now.n }
-    {
-        self.n
     }
 
     pub(crate) fn limit_of(&self, p: u8, q: u8) -> i32
@@ -101,8 +87,9 @@ impl Octagon {
     }
 
     // Takes the cut (p, q, c).
-    fn cut_at(&mut self, p: u8, q: u8, c: i32)
-        ensures { self.new ≡ cutting self.old p q c }
+    #[tactic(auto, unfolding(crate::specs::Octagons::cut_to))]
+    pub(crate) fn cut_by(&mut self, p: u8, q: u8, c: i32)
+        ensures { self.new ≡ cut_to self.old p q c }
     {
         if self.is_idle(p, q, c) {
             return;
@@ -120,11 +107,5 @@ impl Octagon {
             opposite(q) as usize,
             c,
         );
-    }
-
-    pub(crate) fn cut_by(&mut self, p: u8, q: u8, c: i32)
-        ensures { self.new ≡ cut_to self.old p q c }
-    {
-        self.cut_at(p, q, c);
     }
 }

@@ -33,7 +33,7 @@ impl Shape for Octagon {
         ensures value { result ≡ octagon_model.n self.now }
         ensures made { ForMade self.now (λ h ts. result ≡ h.n) }
     {
-        self.settings()
+        self.n
     }
 
     fn cut(&mut self, cut: Cut)
@@ -43,6 +43,7 @@ impl Shape for Octagon {
         self.cut_by(cut.first(), cut.second(), cut.bound());
     }
 
+    #[tactic(auto, using(crate::proofs::Defined::split_defined))]
     fn split(&self) -> (Octagon, Octagon)
         ensures value { result ≡ (octagon_model.lower self.now, octagon_model.upper self.now) }
         ensures made { ForMade self.now (λ h ts. SplitInTwo h ts result) }
@@ -50,6 +51,7 @@ impl Shape for Octagon {
         (self.lower_part(), self.upper_part())
     }
 
+    #[tactic(auto, using(crate::proofs::Defined::extent_defined))]
     fn extent(&self) -> Extent
         ensures value { result ≡ octagon_model.extent self.now }
         ensures made { ForMade self.now (λ h ts. result ≡ extent_by (void h ts) (limit h ts)) }
@@ -57,6 +59,7 @@ impl Shape for Octagon {
         self.extent_of()
     }
 
+    #[tactic(auto, using(crate::proofs::Defined::limit_defined))]
     fn limit(&self, p: u8, q: u8) -> i32
         ensures value { result ≡ octagon_model.limit self.now p q }
         ensures made { ForMade self.now (λ h ts. result ≡ limit h ts p q) }
@@ -71,6 +74,7 @@ impl Shape for Octagon {
         self.holds_point(point)
     }
 
+    #[tactic(auto, using(crate::proofs::Defined::offer_defined))]
     fn offer(&self) -> Option<Point>
         ensures value { result ≡ octagon_model.offer self.now }
         ensures made { ForMade self.now (λ h ts. LeastOffered h ts result) }
@@ -78,6 +82,7 @@ impl Shape for Octagon {
         self.least_point()
     }
 
+    #[tactic(auto, using(crate::proofs::Defined::halvings_defined))]
     fn halvings(&self) -> u32
         ensures value { result ≡ octagon_model.halvings self.now }
         ensures made { ForMade self.now (λ h ts. result ≡ halvings_of (widths (limit h ts))) }
@@ -88,21 +93,25 @@ impl Shape for Octagon {
 
 // Built from a home by cuts, an octagon holds exactly the points of home that meet every cut, reaches each limit, and is
 // void if it holds no point.
+#[tactic(auto, using(crate::specs::Laws::octagon_exact))]
 pub fn octagon_is_exact()
     ensures { Exact octagon_model }
 {}
 
 // The range of a setting is that of the limits.
+#[tactic(auto, using(crate::proofs::Defined::ranges_are_those_of_limits))]
 pub fn ranges_are_those_of_limits()
     ensures { RangesAreThoseOfLimits }
 {}
 
 // Every octagon that is made, cut and split is void or tightly closed.
+#[tactic(auto, using(crate::proofs::Defined::made_is_tight))]
 pub fn made_is_tight()
     ensures { MadeIsTight }
 {}
 
 // Made octagons with the same settings, extent and limits are the same.
+#[tactic(auto, using(crate::proofs::Defined::limits_tell_apart))]
 pub fn limits_tell_apart()
     ensures { LimitsTellApart }
 {}

@@ -1,7 +1,8 @@
-use Rattle.std.proofs.Common.{◌≡◌, ◌*◌, min, get_or, pos, subst, arith, w32, SFits, rules}
+use Rattle.std.proofs.Common.{◌≡◌, ◌*◌, min, ap, ◌∙◌, subst, arith, length-set, w32, SFits, rules}
 use Rattle.std.proofs.lemmas.Int.{to_z-of_z}
-use Rattle.octagon.specs.Entries.{RowsLowered, RowLowered, lowest}
-use Rattle.octagon.specs.Filling.{rows_none, rows_more, rows_all}
+use Rattle.octagon.specs.Crossings.{crossing, half_by, joined_by}
+use Rattle.octagon.specs.Entries.{at, listed, RowLowered, RowsLowered}
+use Rattle.octagon.specs.Filling.{row_more, rows_none, rows_more, rows_all, joined_is}
 use Rattle.octagon.proofs.lowering.lower.Goals as goal
 
 pub loop-i-init : goal.loop-i-init
@@ -9,25 +10,33 @@ loop-i-init c =
     let fc : SFits w32 c.args.c = c.ranges.c in
     (c.told-limits, simp to_z-of_z (rows_none c.args.limits.now c.args.a c.args.b c.args.c (min 16 (2 * c.args.n))))
 
+pub loop-j-preserved : goal.loop-j-preserved
+loop-j-preserved c =
+    let joined = joined_by c.new-cut.result c.halves-halves.result c.loop-i.i in
+    let fits : SFits w32 c.joined.result = search rules in (
+      length-set _ _ _ ∙ c.loop-j.invariant.0,
+      simp to_z-of_z (row_more joined c.loop-j.limits c.loop-i.limits c.loop-i.i c.loop-j.j c.joined.result c.loop-j.invariant.0 (omega arith) (omega arith) c.loop-j.invariant.1 c.joined.ensures),
+    )
+
 pub loop-i-preserved : goal.loop-i-preserved
 loop-i-preserved c =
+    let before = c.args.limits.now in
     let i = c.loop-i.i in
     let fc : SFits w32 c.args.c = c.ranges.c in
-    let fx : SFits w32 (get_or c.ways-by_b.result i (pos 0)) = search rules in
-    let fy : SFits w32 (get_or c.ways-by_a.result i (pos 0)) = search rules in
-    let fh : SFits w32 (get_or c.halves-middle.result i (pos 0)) = search rules in
-    let by_b = c.ways-by_b.result in
-    let by_a = c.ways-by_a.result in
-    let mid = c.halves-middle.result in
-    let row : RowLowered c.lower_row.new.limits c.loop-i.limits i c.nodes-w.result (λ q e. lowest e (get_or by_b i (pos 0)) (get_or c.row-to_b.result q (pos 0)) (get_or by_a i (pos 0)) (get_or c.row-to_a.result q (pos 0)) (get_or mid i (pos 0)) (get_or mid q (pos 0))) = simp to_z-of_z at c.lower_row.ensures in
-    let row' = subst (λ w. RowLowered c.lower_row.new.limits c.loop-i.limits i w (λ q e. lowest e (get_or by_b i (pos 0)) (get_or c.row-to_b.result q (pos 0)) (get_or by_a i (pos 0)) (get_or c.row-to_a.result q (pos 0)) (get_or mid i (pos 0)) (get_or mid q (pos 0)))) c.nodes-w.ensures row in (
-      search rules,
-      simp to_z-of_z (rows_more c.args.limits.now c.args.a c.args.b c.args.c c.loop-i.limits c.lower_row.new.limits i (min 16 (2 * c.args.n)) c.row-to_a.result c.row-to_b.result by_a by_b mid c.row-to_a.ensures c.row-to_b.ensures (simp to_z-of_z at c.ways-by_a.ensures) (simp to_z-of_z at c.ways-by_b.ensures) (simp to_z-of_z at c.halves-middle.ensures) (omega arith) (simp to_z-of_z at c.loop-i.invariant.1) row'),
+    let cut : c.new-cut.result ≡ crossing before c.args.a c.args.b c.args.c = simp to_z-of_z at c.new-cut.ensures in
+    let halves : c.halves-halves.result ≡ listed (half_by (crossing before c.args.a c.args.b c.args.c) before) 16 = c.halves-halves.ensures ∙ ap (λ x. listed (half_by x before) 16) cut in
+    let end : c.loop-j.j ≡ min 16 (2 * c.args.n) = omega arith in
+    let joined = joined_by c.new-cut.result c.halves-halves.result i in
+    let row = subst (λ w. RowLowered c.loop-j.limits c.loop-i.limits i w joined) end c.loop-j.invariant.1 in (
+      c.loop-j.invariant.0,
+      simp to_z-of_z (rows_more before c.args.a c.args.b c.args.c c.loop-i.limits c.loop-j.limits i (min 16 (2 * c.args.n)) joined
+          (λ q l. (λ t. joined_by (cut t) (halves t) i q (at before i q)) ∙ joined_is before c.args.a c.args.b c.args.c i q (omega arith) l)
+          (simp to_z-of_z at c.loop-i.invariant.1) row),
     )
 
 pub returns : goal.returns
 returns c =
     let fc : SFits w32 c.args.c = c.ranges.c in
     let inv = simp to_z-of_z at c.loop-i.invariant in
-    let e : c.loop-i.i ≡ min 16 (2 * c.args.n) = omega arith in
-    rows_all c.args.limits.now c.args.a c.args.b c.args.c c.args.n c.loop-i.limits inv.0 (subst (λ i. RowsLowered c.loop-i.limits c.args.limits.now c.args.a c.args.b c.args.c i (min 16 (2 * c.args.n))) e inv.1)
+    let end : c.loop-i.i ≡ min 16 (2 * c.args.n) = omega arith in
+    rows_all c.args.limits.now c.args.a c.args.b c.args.c c.args.n c.loop-i.limits inv.0 (subst (λ i. RowsLowered c.loop-i.limits c.args.limits.now c.args.a c.args.b c.args.c i (min 16 (2 * c.args.n))) end inv.1)
