@@ -1,148 +1,76 @@
 // The points of an octagon: whether it holds one, and the least that it holds.
-ghost use Rattle.std.specs.Prelude.{◌≡◌, ◌+◌, ◌*◌, ◌<◌, ◌≤◌, min, ◌&&◌, length, take, pos, ◌+ℤ◌, ◌-ℤ◌, neg_ℤ, ◌≤ℤ◌, ◌==◌, int_le};
+ghost use Rattle.std.specs.Prelude.{◌≡◌, ◌*◌, ◌<◌, ◌≤◌, ◌+◌, ◌+ℤ◌, ◌-ℤ◌, int_le};
 ghost use Rattle.interface.specs.Nodes.{value};
-ghost use Rattle.interface.specs.Numbers.{half};
 ghost use Rattle.interface.specs.Points.{values_of};
 ghost use Rattle.octagon_theory.specs.Matrices.{next_value};
 ghost use Rattle.octagon.specs.Entries.{at};
 ghost use Rattle.octagon.specs.Octagons.{row_under, all_under, holds_at, narrow, offered, offer_of};
 
-use super::lowering::half_of;
 use super::matrix::Octagon;
 use interface::point::Point;
 
-// v(p) of the point with these values.
-fn value_at(values: &[i32; 8], p: usize) -> i64
-    requires { p < 16 }
-    ensures value { result ≡ value values.now p }
-    ensures bound { (neg_ℤ (pos 2147483648) ≤ℤ result) × (result ≤ℤ pos 2147483648) }
-{
-    if p % 2 == 0 {
-        values[p / 2] as i64
-    } else {
-        -(values[p / 2] as i64)
-    }
-}
-
-fn is_under(limits: &[i32; 256], values: &[i32; 8], p: usize, q: usize) -> bool
-    requires { (p < 16) × (q < 16) }
-    ensures { result ≡ int_le (value values.now p +ℤ value values.now q) (at limits.now p q) }
-{
-    value_at(values, p) + value_at(values, q) <= limits[16 * p + q] as i64
-}
-
-fn under_too(limits: &[i32; 256], values: &[i32; 8], p: usize, q: usize, before: bool) -> bool
-    requires { (p < 16) × (q < 16) }
-    ensures { result ≡ (int_le (value values.now p +ℤ value values.now q) (at limits.now p q) && before) }
-{
-    is_under(limits, values, p, q) && before
-}
-
-fn row_is_under(limits: &[i32; 256], values: &[i32; 8], w: usize, p: usize) -> bool
-    requires { (w ≤ 16) × (p < 16) }
-    ensures { result ≡ row_under limits.now values.now w p }
-{
-    let mut all = true;
-    for q in 0..w {
-        all = under_too(limits, values, p, q, all);
-    }
-    all
-}
-
-fn row_under_too(limits: &[i32; 256], values: &[i32; 8], w: usize, p: usize, before: bool) -> bool
-    requires { (w ≤ 16) × (p < 16) }
-    ensures { result ≡ (row_under limits.now values.now w p && before) }
-{
-    row_is_under(limits, values, w, p) && before
-}
-
-fn all_are_under(limits: &[i32; 256], values: &[i32; 8], w: usize) -> bool
-    requires { w ≤ 16 }
-    ensures { result ≡ all_under limits.now values.now w }
-{
-    let mut all = true;
-    for p in 0..w {
-        all = row_under_too(limits, values, w, p, all);
-    }
-    all
-}
-
-fn narrowed(z: i64) -> i32
-    ensures { result ≡ narrow z }
-{
-    if -2_147_483_648 <= z && z <= 2_147_483_647 {
-        z as i32
-    } else {
-        0
-    }
-}
-
-// The lower bound that node p, of an earlier setting, puts on setting k.
-fn bound_by(limits: &[i32; 256], values: &[i32; 8], k: usize, p: usize) -> i64
-    requires { (k < 8) × (p < 16) }
-    ensures { result ≡ (value values.now p -ℤ at limits.now p (2 * k + 1)) }
-{
-    value_at(values, p) - limits[16 * p + (2 * k + 1)] as i64
-}
-
-// The lower bound of setting k alone.
-fn own_bound(limits: &[i32; 256], k: usize) -> i64
-    requires { k < 8 }
-    ensures { result ≡ neg_ℤ (half (at limits.now (2 * k + 1) (2 * k + 1))) }
-{
-    -(half_of(limits[16 * (2 * k + 1) + (2 * k + 1)]) as i64)
-}
-
-// The least value of setting k after those before it.
-fn next_value(limits: &[i32; 256], values: &[i32; 8], k: usize) -> i32
-    requires { k < 8 }
-    ensures { result ≡ narrow (next_value (at limits.now) (take k values.now)) }
-{
-    let mut low = own_bound(limits, k);
-    for p in 0..2 * k {
-        low = low.max(bound_by(limits, values, k, p));
-    }
-    narrowed(low)
-}
-
-// The least values of the first m settings.
-fn least_values(limits: &[i32; 256], m: usize) -> [i32; 8]
-    requires { m ≤ 8 }
-    ensures { result ≡ offered limits.now m }
-{
-    let mut values = [0i32; 8];
-    for k in 0..m {
-        values[k] = next_value(limits, &values, k);
-    }
-    values
-}
-
-// How many settings there are room for.
-fn at_most_eight(n: u8) -> u8
-    ensures { result ≡ min 8 n }
-{
-    if n < 8 { n } else { 8 }
-}
-
 impl Octagon {
-    // Whether the point has a value for each setting.
-    fn same_size(&self, point: &Point) -> bool
-        ensures { result ≡ (length (values_of point.now) == self.now.n) }
+    // Whether v(p) + v(q) of the point is at most the limit (p, q).
+    fn is_under(&self, point: &Point, p: u8, q: u8) -> bool
+        requires { (p < 16) × (q < 16) }
+        ensures { result ≡ int_le (value (values_of point.now) p +ℤ value (values_of point.now) q) (at self.now.limits p q) }
     {
-        at_most_eight(point.n) == self.n
+        point.at(p) + point.at(q) <= self.limit_of(p, q) as i64
     }
 
+    fn is_row_under(&self, point: &Point, p: u8) -> bool
+        requires { (self.now.n ≤ 8) × (p < 16) }
+        ensures { result ≡ row_under self.now.limits (values_of point.now) (2 * self.now.n) p }
+    {
+        (0..2 * self.n).all(|q| self.is_under(point, p, q))
+    }
+
+    // Whether the point keeps every limit.
     fn is_above(&self, point: &Point) -> bool
-        requires { length (values_of point.now) ≡ self.now.n }
+        requires { self.now.n ≤ 8 }
         ensures { result ≡ all_under self.now.limits (values_of point.now) (2 * self.now.n) }
     {
-        all_are_under(&self.limits, &point.values, 2 * self.n as usize)
+        (0..2 * self.n).all(|p| self.is_row_under(point, p))
     }
 
     pub(crate) fn holds_point(&self, point: &Point) -> bool
         ensures { result ≡ holds_at self.now (values_of point.now) }
     {
-        !self.void && self.same_size(point) && self.is_above(point)
+        !self.void && point.n.min(8) == self.n && self.is_above(point)
+    }
+
+    // The lower bound that node p, of a setting of the point, puts on the next setting.
+    fn bound_by(&self, point: &Point, p: u8) -> i64
+        requires { (point.now.n < 8) × (p < 16) }
+        ensures { result ≡ (value (values_of point.now) p -ℤ at self.now.limits p (2 * point.now.n + 1)) }
+    {
+        point.at(p) - self.limit_of(p, 2 * point.n + 1) as i64
+    }
+
+    // The least value of the next setting, after those of the point: the greatest of its lower bounds.
+    fn next_value(&self, point: &Point) -> i32
+        requires { point.now.n < 8 }
+        ensures { result ≡ narrow (next_value (at self.now.limits) (values_of point.now)) }
+    {
+        let bounds = (0..2 * point.n).map(|p| self.bound_by(point, p));
+        i32::try_from(bounds.fold(self.low(point.n) as i64, i64::max)).unwrap_or(0)
+    }
+
+    // The least values of the first m settings, and 0 past them.
+    fn least_values(&self, m: u8) -> [i32; 8]
+        requires { m ≤ 8 }
+        ensures { result ≡ offered self.now.limits m }
+    {
+        let mut point = Point {
+            n: 0,
+            values: [0; 8],
+        };
+        // one after the other: each value rests on those before it
+        for k in 0..m {
+            point.values[k as usize] = self.next_value(&point);
+            point.n = k + 1;
+        }
+        point.values
     }
 
     pub(crate) fn least_point(&self) -> Option<Point>
@@ -153,7 +81,7 @@ impl Octagon {
         }
         Some(Point {
             n: self.n,
-            values: least_values(&self.limits, at_most_eight(self.n) as usize),
+            values: self.least_values(self.n.min(8)),
         })
     }
 }

@@ -48,7 +48,7 @@ impl Shape for Octagon {
         ensures value { result ≡ (octagon_model.lower self.now, octagon_model.upper self.now) }
         ensures made { ForMade self.now (λ h ts. SplitInTwo h ts result) }
     {
-        (self.lower_part(), self.upper_part())
+        self.parts()
     }
 
     #[tactic(auto, using(crate::proofs::Defined::extent_defined))]

@@ -1,4 +1,4 @@
-use Rattle.std.proofs.Common.{◌/◌, ◌%◌, pos, rules}
+use Rattle.std.proofs.Common.{pos, rules}
 use Rattle.interface.proofs.Filled.{filled}
 use Rattle.octagon.specs.Crossings.{half_by}
 use Rattle.octagon.specs.Entries.{listed}

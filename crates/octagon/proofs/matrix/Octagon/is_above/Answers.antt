@@ -1,10 +1,12 @@
-use Rattle.std.proofs.Common.{◌∙◌, arith}
-use Rattle.std.proofs.lemmas.List.{length-take}
-use Rattle.octagon.specs.Offering.{under_take}
+use Rattle.std.proofs.Common.{◌*◌, arith, rules, tests}
+use Rattle.std.proofs.lemmas.Iterator.{YieldsList-from_range}
+use Rattle.std.proofs.lemmas.Iterator.Search.{all_from_yields_List}
+use Rattle.interface.specs.Points.{values_of}
+use Rattle.octagon.specs.Octagons.{row_under, all_under}
 use Rattle.octagon.proofs.matrix.Octagon.is_above.Goals as goal
 
-pub all_are_under-requires : goal.all_are_under-requires
-all_are_under-requires c = omega (arith, length-take c.args.point.now.n c.args.point.now.values)
-
 pub returns : goal.returns
-returns c = c.all_are_under.ensures ∙ under_take c.args.self.now.limits c.args.point.now.n c.args.self.now.n c.args.point.now.values (omega (arith, length-take c.args.point.now.n c.args.point.now.values))
+unfolding all_under
+returns c =
+    let w = 2 * c.args.self.now.n in
+    all_from_yields_List (row_under c.args.self.now.limits (values_of c.args.point.now) w) _ _ _ c.all.ensures.ran (YieldsList-from_range 0 w w (cc) (omega arith)) (λ x b q k. search (rules, tests))
