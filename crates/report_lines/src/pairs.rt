@@ -39,7 +39,7 @@ fn is_written(reading: &Reading, p: u8, q: u8) -> bool
 fn pair_bytes(reading: &Reading, p: u8, q: u8) -> [u8; 7]
     ensures { result ≡ pair_frame reading.now p q }
 {
-    let limit = i32_bytes(reading.limit(p.into(), q.into()));
+    let limit = i32_bytes(reading.limit(u16::from(p), u16::from(q)));
     [2, p, q, limit[0], limit[1], limit[2], limit[3]]
 }
 

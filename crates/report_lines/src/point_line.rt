@@ -12,5 +12,5 @@ pub fn put_point(out: &mut Output, point: &Point)
     ensures { Appends out.old out.new (point_frame point.now ∷ []) }
 {
     let bytes: [u8; 34] = words_frame(0x10, point.n, &point.values);
-    out.put_line(&bytes[..2 + 4 * point.n.min(8) as usize]);
+    out.put_line(&bytes[..2 + 4 * point.settings() as usize]);
 }

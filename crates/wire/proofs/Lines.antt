@@ -1,8 +1,8 @@
 -- The grounds of a line one after another: where one is reached, none before it holds. Assumes nothing.
 use Rattle.std.proofs.Common.{◌≡◌, ℕ, ◌+◌, ◌-◌, ◌%◌, ◌<◌, ◌≤◌, Bool, true, false, not, ◌||◌, eqb, ltb, ◌⊎◌, List, [], ◌∷◌, length, take, None, Ok, Err, Result, sym, refl, ap, ◌∙◌, inl, inr, arith}
 use Rattle.std.specs.List.{prefix_len}
-use Rattle.std.proofs.lemmas.List.{drop_all, take_all, length-drop, length-take-le}
-use Rattle.std.proofs.lemmas.List.Sums.{prefix_len-le-length, prefix_len_passes, prefix_len_stops}
+use Rattle.std.proofs.lemmas.List.{drop_all, take_all, length-drop}
+use Rattle.std.proofs.lemmas.List.Sums.{prefix_len_passes, prefix_len_stops}
 use Rattle.std.proofs.lemmas.Bool.{ltb-true, ltb-false, lt-ltb, cond-true, eqb-true, eqb-false, or_cases, or_parts, not-true, not-false}
 use Rattle.interface.specs.declared.fault.TextFault.{TextFault}
 use Rattle.interface.specs.Grounds.{first_fault}
@@ -10,7 +10,7 @@ use Rattle.wire.specs.declared.reader.Reader.{Reader}
 use Rattle.wire.specs.Bytes.{is_digit}
 use Rattle.wire.proofs.Hex.{hex_unhex}
 use Rattle.wire.specs.Readers.{left_of, advanced}
-use Rattle.wire.specs.Text.{place, no_feed, line_length, first_line, has_feed, line_check, line_answer, next_line, used, count_up, next_number, LineSays, AllDigits}
+use Rattle.wire.specs.Text.{place, line_length, first_line, has_feed, line_check, line_answer, next_line, used, count_up, next_number, LineSays, AllDigits}
 
 -- four grounds in their order
 four : {F : Type 0} (P : Result (Unit {0}) F → Type 0) (a b c d : Bool) (f g h k : F) → (a ≡ true → P (Err f)) → (a ≡ false → b ≡ true → P (Err g)) → (a ≡ false → b ≡ false → c ≡ true → P (Err h)) → (a ≡ false → b ≡ false → c ≡ false → d ≡ true → P (Err k)) → (a ≡ false → b ≡ false → c ≡ false → d ≡ false → P (Ok tt)) → P (first_fault ((a, f) ∷ (b, g) ∷ (c, h) ∷ (d, k) ∷ []))
@@ -92,6 +92,3 @@ module _ (r : Reader) where
         let on : p ≡ r.pos + used (next_line left) = ep ∙ ap (λ x. r.pos + used x) (sym line_answered) in
         let up : m ≡ next_number left r.line = em ∙ sym (cond-true (ltb 0 (length left)) (count_up r.line) r.line more) in
         λ i. record { text = r.text; pos = on i; line = up i }
-
-    pub line_long : length (take n rest) ≡ n
-    line_long = length-take-le n rest (omega (arith, prefix_len-le-length no_feed rest))

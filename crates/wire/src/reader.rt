@@ -1,7 +1,7 @@
 // A reader over a lent text: it hands out each line's digits as a part of that text.
-ghost use Rattle.std.specs.Prelude.{◌≡◌};
+ghost use Rattle.std.specs.Prelude.{◌≡◌, ◌+◌, ◌≤◌, Ok, Some, length};
 ghost use Rattle.wire.specs.Readers.{left_of, seen, advanced};
-ghost use Rattle.wire.specs.Text.{line_length, next_line, count_up};
+ghost use Rattle.wire.specs.Text.{line_length, next_line, used, count_up};
 
 use super::text::check_line;
 use interface::fault::TextFault;
@@ -54,7 +54,15 @@ impl<'a> Reader<'a> {
         let length = line_length(rest);
         let line = &rest[..length];
         check_line(line, length < rest.len())?;
-        self.pos += length + 1;
+        self.pass(line);
         Ok(Some(line))
+    }
+
+    // Past a line and its line feed.
+    fn pass(&mut self, line: &[u8])
+        requires { self.old.pos + length line.now ≤ length self.old.text.now }
+        ensures { self.new ≡ record self.old { pos = self.old.pos + used (Ok (Some line.now)) } }
+    {
+        self.pos += line.len() + 1;
     }
 }

@@ -1,7 +1,7 @@
-use Rattle.std.proofs.Common.{◌+◌, ◌-◌, length, take, Ok, Err, refl, sym, ap, arith}
+use Rattle.std.proofs.Common.{◌-◌, length, take, Ok, Err, refl, sym, ◌∙◌, arith}
 use Rattle.std.proofs.lemmas.Result.{err_from_is_err_and}
 use Rattle.wire.specs.Readers.{left_of}
-use Rattle.wire.proofs.Lines.{none_left, none_moves, line_answered, line_moves, line_long}
+use Rattle.wire.proofs.Lines.{none_left, none_moves, line_answered, line_moves}
 use Rattle.wire.proofs.reader.Reader.next_line.Goals as goal
 
 pub returns-then-self-text : goal.returns-then-self-text
@@ -26,8 +26,7 @@ returns c =
     let r = c.args.self.now in
     let rest = take (length r.text.now - r.pos) (left_of r) in
     let n = c.line_length-length.result in
-    let long = line_long r rest n (Ok tt) c.if-self-text.false refl c.line_length-length.ensures c.in_ok-check_line.ensures.value in
     record {
       value = sym (line_answered r rest n (Ok tt) c.if-self-text.false refl c.line_length-length.ensures c.in_ok-check_line.ensures.value);
-      after = line_moves r rest n (Ok tt) c.if-self-text.false refl c.line_length-length.ensures c.in_ok-check_line.ensures.value c.next_number-self.result (r.pos + (n + 1)) c.next_number-self.ensures (ap (λ k. r.pos + (k + 1)) (sym long));
+      after = c.pass.ensures ∙ line_moves r rest n (Ok tt) c.if-self-text.false refl c.line_length-length.ensures c.in_ok-check_line.ensures.value c.next_number-self.result _ c.next_number-self.ensures refl;
     }
