@@ -9,17 +9,17 @@ use Rattle.interface.specs.declared.reading.Reading.{Reading}
 use Rattle.interface.specs.Cuts.{Meets}
 use Rattle.interface.specs.Readings.{low_in, high_in, Within, SumsOf}
 use Rattle.interface.specs.Rules.{RuleLaws}
+use Rattle.interface.specs.Guards.{guarded, Clear, CoreLaws}
+use Rattle.interface.specs.GuardsLemmas.{clear_ok, guarded_laws}
+use Rattle.interface.proofs.Values.{value_even, value_odd}
 use Rattle.wire.specs.Frames.{FrameLaws, by_table, FitAll}
 use Rattle.wire.specs.Codecs.{by_table_laws, fit_byte, fit_signed}
 use Rattle.rules.specs.declared.step.StepRule.{StepRule}
 use Rattle.rule_base.specs.Bounds.{equal, bounded}
-use Rattle.interface.specs.Guards.{guarded, Clear, CoreLaws}
 use Rattle.rules.specs.Steps.{rest, step_codec, step_core, step_grounds, step_meets, leaves, last_up_to, first_from, Divides, LastUpTo, FirstFrom, none_leaves, one_leaves}
 use Rattle.rule_base.proofs.CutsMet.{bound_met}
-use Rattle.interface.specs.GuardsLemmas.{clear_ok, guarded_laws}
 use Rattle.rule_base.proofs.Integers.{times_neg, quotient_rest, multiple_most, rest_one}
 use Rattle.rule_base.proofs.Ranges.{range_from, range_to, range_low, range_high}
-use Rattle.interface.proofs.Values.{value_even, value_odd}
 
 rest_is : (k : ℕ) → 0 < k → (z : ℤ) → rest (pos k) z ≡ int_rem_euclid z (pos k)
 unfolding rest
