@@ -57,6 +57,7 @@ pub trait Core: Copy {
     ghost laws: { CoreLaws core };
 }
 
+// Every core is a rule.
 impl<C: Core> Rule for C {
     ghost model = { guarded C.core };
 
@@ -70,6 +71,7 @@ impl<C: Core> Rule for C {
         self.check_grounds(n).is_ok() && self.met_by(point)
     }
 
+    // Nothing is tried before all.
     fn judge(&self, reading: &Reading) -> Verdict {
         if self.check_grounds(reading.n).is_err() || self.none_within(reading) {
             Verdict::Nothing

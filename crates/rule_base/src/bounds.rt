@@ -24,6 +24,7 @@ pub fn negative(x: i32) -> i64
 pub fn cut_at(p: u16, q: u16, c: i64) -> Option<Cut>
     ensures { result ≡ cut_at p q c }
 {
+    // within these bounds each cast is exact
     if p < 16 && q < 16 && (-2_000_000..=2_000_000).contains(&c) {
         Cut::new(p as u8, q as u8, c as i32)
     } else {

@@ -7,10 +7,10 @@ use Rattle.interface.specs.declared.fault.RecordFault.TheVariants.{Node, Clash, 
 use Rattle.interface.specs.declared.reading.Reading.{Reading}
 use Rattle.interface.specs.Grounds.{first_fault}
 use Rattle.interface.specs.Readings.{limit_at}
+use Rattle.interface.specs.Guards.{CoreModel}
 use Rattle.wire.specs.Frames.{Field, field, field_place, Codec}
 use Rattle.rules.specs.declared.apart.ApartRule.{ApartRule}
 use Rattle.rule_base.specs.Bounds.{between, cut_at}
-use Rattle.interface.specs.Guards.{CoreModel}
 
 -- the fields behind the frame's code
 abbrev a_field : Field

@@ -9,15 +9,15 @@ use Rattle.interface.specs.declared.reading.Reading.{Reading}
 use Rattle.interface.specs.Cuts.{Meets}
 use Rattle.interface.specs.Readings.{Within, SumsOf}
 use Rattle.interface.specs.Rules.{RuleLaws}
+use Rattle.interface.specs.Guards.{guarded, Clear, CoreLaws}
+use Rattle.interface.specs.GuardsLemmas.{clear_ok, guarded_laws}
+use Rattle.interface.proofs.Values.{value_even, value_odd}
 use Rattle.wire.specs.Frames.{FrameLaws, by_table, FitAll}
 use Rattle.wire.specs.Codecs.{by_table_laws, fit_byte, fit_signed}
 use Rattle.rules.specs.declared.apart.ApartRule.{ApartRule}
 use Rattle.rules.specs.Aparts.{apart_codec, apart_core, apart_grounds, apart_cut, least_gap, greatest_gap, far, all_near, all_far}
 use Rattle.rule_base.specs.Bounds.{cut_at}
-use Rattle.interface.specs.Guards.{guarded, Clear, CoreLaws}
 use Rattle.rule_base.proofs.CutsMet.{cut_met}
-use Rattle.interface.specs.GuardsLemmas.{clear_ok, guarded_laws}
-use Rattle.interface.proofs.Values.{value_even, value_odd}
 
 near_not_far : (d low high z : ℤ) → low ≤ℤ z → z ≤ℤ high → all_near d low high ≡ true → far d z ≡ false
 near_not_far d low high z h k e = grind (arith, ints)

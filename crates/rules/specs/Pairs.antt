@@ -9,10 +9,10 @@ use Rattle.interface.specs.Grounds.{first_fault}
 use Rattle.interface.specs.Nodes.{opp, value}
 use Rattle.interface.specs.Numbers.{within}
 use Rattle.interface.specs.Readings.{limit_at}
+use Rattle.interface.specs.Guards.{CoreModel}
 use Rattle.wire.specs.Frames.{Field, field, field_place, Codec}
 use Rattle.rules.specs.declared.pair.PairRule.{PairRule}
 use Rattle.rule_base.specs.Bounds.{cut_at}
-use Rattle.interface.specs.Guards.{CoreModel}
 
 -- the fields behind the frame's code
 abbrev p_field : Field

@@ -10,14 +10,14 @@ use Rattle.interface.specs.Cuts.{Meets}
 use Rattle.interface.specs.Nodes.{opp}
 use Rattle.interface.specs.Readings.{Within, SumsOf}
 use Rattle.interface.specs.Rules.{RuleLaws}
+use Rattle.interface.specs.Guards.{guarded, Clear, CoreLaws}
+use Rattle.interface.specs.GuardsLemmas.{clear_ok, guarded_laws}
+use Rattle.interface.proofs.Values.{value_opp, opp_below}
 use Rattle.wire.specs.Frames.{FrameLaws, by_table, FitAll}
 use Rattle.wire.specs.Codecs.{by_table_laws, fit_byte, fit_signed}
 use Rattle.rules.specs.declared.pair.PairRule.{PairRule}
-use Rattle.interface.specs.Guards.{guarded, Clear, CoreLaws}
 use Rattle.rules.specs.Pairs.{pair_codec, pair_core, pair_grounds, pair_none, pair_all, pair_meets, pair_cut}
 use Rattle.rule_base.proofs.CutsMet.{cut_met}
-use Rattle.interface.specs.GuardsLemmas.{clear_ok, guarded_laws}
-use Rattle.interface.proofs.Values.{value_opp, opp_below}
 
 none_meets : (r : PairRule) (g : Reading) → Clear (pair_grounds g.n r) → pair_none r g ≡ true → (x : List ℤ) → Within g x → pair_meets r x ≡ false
 none_meets r g ok e x w =

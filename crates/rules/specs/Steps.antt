@@ -7,10 +7,10 @@ use Rattle.interface.specs.declared.fault.RecordFault.TheVariants.{Node, Number}
 use Rattle.interface.specs.declared.reading.Reading.{Reading}
 use Rattle.interface.specs.Grounds.{first_fault}
 use Rattle.interface.specs.Readings.{low_in, high_in}
+use Rattle.interface.specs.Guards.{CoreModel}
 use Rattle.wire.specs.Frames.{Field, field, field_place, Codec}
 use Rattle.rules.specs.declared.step.StepRule.{StepRule}
 use Rattle.rule_base.specs.Bounds.{between, equal, bounded}
-use Rattle.interface.specs.Guards.{CoreModel}
 
 -- what z leaves when it is divided by m, rounded down; shut, so that proofs take it as one name
 unfoldable pub rest : ℤ → ℤ → ℤ

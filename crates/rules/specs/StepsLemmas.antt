@@ -1,6 +1,6 @@
 -- The step rule keeps its laws: the values that leave r lie m apart. Assumes nothing.
 use Rattle.std.specs.Prelude.{◌≡◌, ℕ, ◌+◌, ◌*◌, ◌<◌, ◌≤◌, Bool, true, false, cond, List, ℤ, pos, negsuc, ◌+ℤ◌, ◌-ℤ◌, ◌*ℤ◌, neg_ℤ, ◌≤ℤ◌, ◌<ℤ◌, Some, None, Ok, ◌==◌, ◌≢◌, slice_index_or, refl}
-use Rattle.std.proofs.Common.{ap, ap₂, sym, ◌∙◌, arith}
+use Rattle.std.proofs.Common.{ap, ap₂, sym, ◌∙◌, subst, arith}
 use Rattle.std.proofs.lemmas.Int.{ints}
 use Rattle.std.specs.Int.{int_div_euclid, int_rem_euclid, w32}
 use Rattle.std.proofs.lemmas.Bool.{leb-false, lt-ltb, cond-true, both_ways, and_parts}
@@ -9,17 +9,17 @@ use Rattle.interface.specs.declared.reading.Reading.{Reading}
 use Rattle.interface.specs.Cuts.{Meets}
 use Rattle.interface.specs.Readings.{low_in, high_in, Within, SumsOf}
 use Rattle.interface.specs.Rules.{RuleLaws}
+use Rattle.interface.specs.Guards.{guarded, Clear, CoreLaws}
+use Rattle.interface.specs.GuardsLemmas.{clear_ok, guarded_laws}
+use Rattle.interface.proofs.Values.{value_even, value_odd}
 use Rattle.wire.specs.Frames.{FrameLaws, by_table, FitAll}
 use Rattle.wire.specs.Codecs.{by_table_laws, fit_byte, fit_signed}
 use Rattle.rules.specs.declared.step.StepRule.{StepRule}
 use Rattle.rule_base.specs.Bounds.{equal, bounded}
-use Rattle.interface.specs.Guards.{guarded, Clear, CoreLaws}
 use Rattle.rules.specs.Steps.{rest, step_codec, step_core, step_grounds, step_meets, leaves, last_up_to, first_from, Divides, LastUpTo, FirstFrom, none_leaves, one_leaves}
 use Rattle.rule_base.proofs.CutsMet.{bound_met}
-use Rattle.interface.specs.GuardsLemmas.{clear_ok, guarded_laws}
 use Rattle.rule_base.proofs.Integers.{times_neg, quotient_rest, multiple_most, rest_one}
 use Rattle.rule_base.proofs.Ranges.{range_from, range_to, range_low, range_high}
-use Rattle.interface.proofs.Values.{value_even, value_odd}
 
 rest_is : (k : ℕ) → 0 < k → (z : ℤ) → rest (pos k) z ≡ int_rem_euclid z (pos k)
 unfolding rest
@@ -94,11 +94,11 @@ module _ (s : StepRule) (h : pos 0 <ℤ s.m) where
         let same : last_up_to s v ≡ v = omega (arith, ints, last_rest v, e) in
         both_ways _ f (grind (arith, ints, last_leaves v, ap (leaves s) same))
 
-pub last_is : (s : StepRule) → Divides s → (z : ℤ) → LastUpTo s z (last_up_to s z)
-last_is s d z = is_last s (omega (arith, ints)) d.0 d.1 z
+pub last_at : (s : StepRule) (z v : ℤ) → v ≡ last_up_to s z → Divides s → LastUpTo s z v
+last_at s z v e d = subst (LastUpTo s z) (sym e) (is_last s (omega (arith, ints)) d.0 d.1 z)
 
-pub first_is : (s : StepRule) → Divides s → (z : ℤ) → FirstFrom s z (first_from s z)
-first_is s d z = is_first s (omega (arith, ints)) d.0 d.1 z
+pub first_at : (s : StepRule) (z v : ℤ) → v ≡ first_from s z → Divides s → FirstFrom s z v
+first_at s z v e d = subst (FirstFrom s z) (sym e) (is_first s (omega (arith, ints)) d.0 d.1 z)
 
 none_leave : (s : StepRule) → pos 0 <ℤ s.m → (low high v : ℤ) → low ≤ℤ v → v ≤ℤ high → none_leaves s low high ≡ true → leaves s v ≡ false
 none_leave s h low high v l u e = by (leaves s v) refl

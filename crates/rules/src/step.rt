@@ -1,5 +1,5 @@
 // The step rule: a setting moves in steps of m.
-ghost use Rattle.std.specs.Prelude.{◌≡◌, ◌^◌, ◌≤◌, unsigned_abs};
+ghost use Rattle.std.specs.Prelude.{◌≡◌, ◌^◌, ◌≤◌, ◌-ℤ◌, unsigned_abs};
 ghost use Rattle.wire.specs.Frames.{by_table};
 ghost use Rattle.rules.specs.Steps.{step_codec, step_core, rest, leaves, last_up_to, first_from, Divides, LastUpTo, FirstFrom};
 ghost use Rattle.rules.specs.StepsLemmas.{step_core_laws, step_trips};
@@ -24,6 +24,7 @@ pub struct StepRule {
 }
 
 // What z leaves when it is divided by m, 0 where m is no divisor.
+#[tactic(auto, unfolding(crate::specs::Steps::rest))]
 fn remainder(m: i32, z: i64) -> i64
     ensures value { result ≡ rest m z }
     ensures bound { unsigned_abs result ≤ 2 ^ 31 }
@@ -41,12 +42,33 @@ impl StepRule {
         remainder(self.m, i64::from(z)) == i64::from(self.r)
     }
 
+    // What x - y leaves when it is divided by m.
+    fn rest_of(&self, x: i32, y: i32) -> i64
+        ensures value { result ≡ rest self.now.m (x -ℤ y) }
+        ensures bound { unsigned_abs result ≤ 2 ^ 31 }
+    {
+        remainder(self.m, gap(x, y))
+    }
+
+    fn last_up_to(&self, z: i32) -> i64
+        ensures { result ≡ last_up_to self.now z }
+    {
+        i64::from(z) - self.rest_of(z, self.r)
+    }
+
+    fn first_from(&self, z: i32) -> i64
+        ensures value { result ≡ first_from self.now z }
+        ensures bound { unsigned_abs result ≤ 2 ^ 33 }
+    {
+        i64::from(z) + self.rest_of(self.r, z)
+    }
+
     // The greatest value up to z that leaves r.
     pub fn greatest_up_to(&self, z: i32) -> i64
         ensures value { result ≡ last_up_to self.now z }
         ensures last { Divides self.now → LastUpTo self.now z result }
     {
-        i64::from(z) - remainder(self.m, gap(z, self.r))
+        self.last_up_to(z)
     }
 
     // The least value from z that leaves r.
@@ -55,7 +77,7 @@ impl StepRule {
         ensures bound { unsigned_abs result ≤ 2 ^ 33 }
         ensures first { Divides self.now → FirstFrom self.now z result }
     {
-        i64::from(z) + remainder(self.m, gap(self.r, z))
+        self.first_from(z)
     }
 }
 
@@ -89,6 +111,7 @@ impl Core for StepRule {
         None
     }
 
+    #[tactic(auto, using(crate::proofs::Negatives::negative_back))]
     fn proposed_cut(&self, reading: &Reading, i: u8) -> Option<Cut> {
         let node = 2 * u16::from(self.a);
         match i {

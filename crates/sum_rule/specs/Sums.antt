@@ -9,11 +9,11 @@ use Rattle.interface.specs.declared.reading.Reading.{Reading}
 use Rattle.interface.specs.Grounds.{first_fault}
 use Rattle.interface.specs.Numbers.{within}
 use Rattle.interface.specs.Readings.{low_in, high_in}
+use Rattle.interface.specs.Guards.{CoreModel}
 use Rattle.wire.specs.Frames.{Field, field, field_place, Codec}
 use Rattle.sum_rule.specs.declared.sum.SumRule.{SumRule}
 use Rattle.sum_rule.specs.declared.sum.Term.{Term}
 use Rattle.rule_base.specs.Bounds.{bounded, equal}
-use Rattle.interface.specs.Guards.{CoreModel}
 
 -- the product; shut, so that proofs take it as one name
 unfoldable pub times : ℤ → ℤ → ℤ

@@ -11,18 +11,18 @@ use Rattle.interface.specs.Nodes.{value}
 use Rattle.interface.specs.Numbers.{within}
 use Rattle.interface.specs.Readings.{Within, SumsOf}
 use Rattle.interface.specs.Rules.{RuleLaws}
+use Rattle.interface.specs.Guards.{guarded, Clear, CoreLaws}
+use Rattle.interface.specs.GuardsLemmas.{clear_ok, guarded_laws}
+use Rattle.interface.proofs.Values.{value_even, value_odd}
 use Rattle.wire.specs.Frames.{FrameLaws, by_table, FitAll}
 use Rattle.wire.specs.Codecs.{by_table_laws, fit_byte, fit_signed}
 use Rattle.sum_rule.specs.declared.sum.SumRule.{SumRule}
 use Rattle.sum_rule.specs.declared.sum.Term.{Term}
 use Rattle.rule_base.specs.Bounds.{equal, bounded}
-use Rattle.interface.specs.Guards.{guarded, Clear, CoreLaws}
 use Rattle.sum_rule.specs.Sums.{times, wrong_number, sum_codec, sum_core, sum_grounds, sum_meets, sum_none, sum_all, term_cut, left_for, is_empty, term_at, least_of, greatest_of}
 use Rattle.rule_base.proofs.CutsMet.{bound_met}
-use Rattle.interface.specs.GuardsLemmas.{clear_ok, guarded_laws}
 use Rattle.rule_base.proofs.Integers.{times_neg, floor_most, least_at, greatest_at}
 use Rattle.rule_base.proofs.Ranges.{range_from, range_to, range_low, range_high}
-use Rattle.interface.proofs.Values.{value_even, value_odd}
 
 end_same : (b : Bool) (y z v : ℤ) → y ≡ v → z ≡ v → cond b y z ≡ v
 end_same true y z v e f = e

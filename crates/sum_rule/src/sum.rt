@@ -28,6 +28,7 @@ pub struct SumRule {
     pub t: i32,
 }
 
+#[tactic(auto, unfolding(crate::specs::Sums::times), using(crate::proofs::Products::product_small))]
 fn product(k: i8, z: i32) -> i64
     ensures value { result ≡ times k z }
     ensures bound { unsigned_abs result ≤ 2 ^ 38 }
