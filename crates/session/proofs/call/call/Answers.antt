@@ -2,10 +2,5 @@
 use Rattle.octagon.specs.Laws.{octagon_exact}
 use Rattle.session.proofs.call.call.Goals as goal
 
-pub returns : goal.returns
-returns g c =
-    record {
-      answers = c.call.ensures.answers;
-      promise = λ l rest more deep h. let p = c.call.ensures.promise l rest more deep h in (p.0, p.1 octagon_exact);
-      same_slices = c.call.ensures.same_slices;
-    }
+pub returns-clause-promise : goal.returns-clause-promise
+returns-clause-promise g c l rest more deep h = let p = c.call.ensures.promise l rest more deep h in (p.0, p.1 octagon_exact)

@@ -6,11 +6,7 @@ use Rattle.search.specs.Lending.{world_with}
 use Rattle.search.specs.Promised.{Promised}
 use Rattle.search.proofs.solver.Solver.call.Goals as goal
 
-pub returns : goal.returns
-returns g c =
+pub returns-clause-promise : goal.returns-clause-promise
+returns-clause-promise g c =
     let w : World g.row.S.Denot g.row.R.Denot = world_with c.args.self.now c.args.lent.now in
-    record {
-      answers = c.call_any.ensures.answers;
-      promise = subst (Promised g.S.Shape.model g.R.Rule.model w c.args.request) (sym c.call_any.ensures.answers) (λ l rest more deep h. promised g.met.S.Shape.laws g.met.R.Rule.laws l w rest more deep h c.args.lent.now.out.now c.args.request);
-      same_slices = c.call_any.ensures.same_slices;
-    }
+    subst (Promised g.S.Shape.model g.R.Rule.model w c.args.request) (sym c.call_any.ensures.answers) (λ l rest more deep h. promised g.met.S.Shape.laws g.met.R.Rule.laws l w rest more deep h c.args.lent.now.out.now c.args.request)
