@@ -9,7 +9,7 @@ use interface::node::opposite;
 use std::array;
 
 // The limit (p, q) stands at 16 p + q: 0 where a node is 2n or above, for opposite nodes, and on a void octagon.
-// `void` is a field and no Option of the limits: a void octagon answers each question too, with 0 for a limit.
+// `void` stands beside them, and they are no Option: a void octagon answers 0 for each limit, as any octagon off its line.
 #[derive(Clone, Copy)]
 pub struct Octagon {
     pub(crate) n: u8,
@@ -34,10 +34,11 @@ fn home_limit_at(home: &Home, p: u8, q: u8) -> i32
     requires { (p < 16) × (q < 16) }
     ensures { result ≡ home_limit home.now p q }
 {
-    if 2 * home.n as u16 <= p as u16 || 2 * home.n as u16 <= q as u16 || q == opposite(p) {
-        return 0;
+    if home.n <= p / 2 || home.n <= q / 2 || q == opposite(p) {
+        0
+    } else {
+        sum(top_at(home, p), top_at(home, q))
     }
-    sum(top_at(home, p), top_at(home, q))
 }
 
 // The matrix of a home is tightly closed as it stands.

@@ -18,6 +18,7 @@ impl Octagon {
         point.at(p) + point.at(q) <= self.limit_of(p, q) as i64
     }
 
+    // Whether the point keeps the limits of row p.
     fn is_row_under(&self, point: &Point, p: u8) -> bool
         requires { (self.now.n ≤ 8) × (p < 16) }
         ensures { result ≡ row_under self.now.limits (values_of point.now) (2 * self.now.n) p }
@@ -33,6 +34,7 @@ impl Octagon {
         (0..2 * self.n).all(|p| self.is_row_under(point, p))
     }
 
+    // `min` and not `settings`: to read the point itself shows that it has eight places.
     pub(crate) fn holds_point(&self, point: &Point) -> bool
         ensures { result ≡ holds_at self.now (values_of point.now) }
     {

@@ -11,9 +11,25 @@ use halving::{halvings, single, widest};
 use interface::extent::Extent;
 use std::array;
 
+// The bound of the cut to values up to m.
+fn below_middle(m: i32) -> i32
+    requires { (neg_ℤ (pos 1073741824) ≤ℤ m) × (m ≤ℤ pos 1073741823) }
+    ensures { result ≡ up_to m }
+{
+    2 * m
+}
+
+// The bound of the cut to values from m + 1.
+fn above_middle(m: i32) -> i32
+    requires { (neg_ℤ (pos 1073741824) ≤ℤ m) × (m ≤ℤ pos 1073741823) }
+    ensures { result ≡ from_next m }
+{
+    -2 * (m + 1)
+}
+
 impl Octagon {
     // The greatest value of setting k.
-    pub(crate) fn high(&self, k: u8) -> i32
+    fn high(&self, k: u8) -> i32
         requires { k < 8 }
         ensures value { result ≡ high_at (at self.now.limits) k }
         ensures bound { (neg_ℤ (pos 1073741824) ≤ℤ result) × (result ≤ℤ pos 1073741823) }
@@ -95,8 +111,8 @@ impl Octagon {
         let k = self.widest_setting();
         let m = self.middle(k);
         (
-            self.with_cut(2 * k, 2 * k, 2 * m),
-            self.with_cut(2 * k + 1, 2 * k + 1, -2 * (m + 1)),
+            self.with_cut(2 * k, 2 * k, below_middle(m)),
+            self.with_cut(2 * k + 1, 2 * k + 1, above_middle(m)),
         )
     }
 

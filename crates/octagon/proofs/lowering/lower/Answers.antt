@@ -2,13 +2,8 @@ use Rattle.std.proofs.Common.{◌≡◌, ◌*◌, min, ap, ◌∙◌, subst, ari
 use Rattle.std.proofs.lemmas.Int.{to_z-of_z}
 use Rattle.octagon.specs.Crossings.{crossing, half_by, joined_by}
 use Rattle.octagon.specs.Entries.{at, listed, RowLowered, RowsLowered}
-use Rattle.octagon.specs.Filling.{row_more, rows_none, rows_more, rows_all, joined_is}
+use Rattle.octagon.specs.Filling.{row_more, rows_more, rows_all, joined_is}
 use Rattle.octagon.proofs.lowering.lower.Goals as goal
-
-pub loop-i-init : goal.loop-i-init
-loop-i-init c =
-    let fc : SFits w32 c.args.c = c.ranges.c in
-    (c.told-limits, simp to_z-of_z (rows_none c.args.limits.now c.args.a c.args.b c.args.c (min 16 (2 * c.args.n))))
 
 pub loop-j-preserved : goal.loop-j-preserved
 loop-j-preserved c =

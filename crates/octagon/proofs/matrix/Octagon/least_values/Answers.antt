@@ -3,11 +3,8 @@ use Rattle.std.proofs.lemmas.Int.{to_z-of_z}
 use Rattle.octagon_theory.specs.Matrices.{next_value}
 use Rattle.octagon.specs.Entries.{at}
 use Rattle.octagon.specs.Octagons.{narrow}
-use Rattle.octagon.specs.Offering.{SoFar, so_far_none, so_far_more, so_far_all}
+use Rattle.octagon.specs.Offering.{SoFar, so_far_more, so_far_all}
 use Rattle.octagon.proofs.matrix.Octagon.least_values.Goals as goal
-
-pub loop-k-init : goal.loop-k-init
-loop-k-init c = (refl, so_far_none (at c.args.self.now.limits) c.args.m)
 
 pub loop-k-preserved : goal.loop-k-preserved
 loop-k-preserved c =
