@@ -1,13 +1,14 @@
 -- A home that passes its check: none of its grounds holds, so its numbers are within their bounds. Assumes nothing.
-use Rattle.std.proofs.Common.{◌≡◌, ℕ, zero, suc, ◌<◌, ◌≤◌, Bool, true, false, cond, ◌&&◌, ltb, List, [], ◌∷◌, length, get_or, ℤ, pos, neg_ℤ, ◌≤ℤ◌, Ok, Err, Result, sym, refl, ◌∙◌, subst, arith}
+use Rattle.std.proofs.Common.{◌≡◌, ℕ, zero, suc, ◌<◌, ◌≤◌, Bool, true, false, cond, ◌&&◌, ltb, nat_lt, slice_index_or, ⊎_elim, List, [], ◌∷◌, length, get_or, ℤ, pos, neg_ℤ, ◌≤ℤ◌, Ok, Err, Result, sym, refl, ◌∙◌, subst, arith}
 use lib.Signed.{le_z}
 use Rattle.std.specs.List.{range_with_len, flat_map}
-use Rattle.std.proofs.lemmas.List.FromFn.{length-range_with_len, get_or-range_with_len}
+use Rattle.std.proofs.lemmas.List.FromFn.{length-range_with_len, get_or-range_with_len, get_or-map-range_with_len, length-map-range_with_len}
 use Rattle.std.proofs.lemmas.Int.{ints}
-use Rattle.std.proofs.lemmas.Bool.{and_parts, ltb-true, not-false}
+use Rattle.std.proofs.lemmas.Bool.{and_parts, ltb-true, not-false, cases_lt, cond-true, cond-false, lt-ltb, le-ltb}
+use Rattle.std.proofs.lemmas.List.{get_or_past}
 use Rattle.interface.specs.declared.home.Home.{Home}
 use Rattle.interface.specs.Grounds.{first_fault, next}
-use Rattle.interface.specs.Homes.{low_of, high_of, range_grounds, crossed_grounds, settings_grounds, Passes}
+use Rattle.interface.specs.Homes.{zero_span, low_of, high_of, span_or_0, eight_spans, range_grounds, crossed_grounds, settings_grounds, Passes}
 use Rattle.interface.specs.Numbers.{within}
 use Rattle.interface.proofs.Grounds.{first_fault_append}
 
@@ -29,6 +30,20 @@ module _ {F : Type 0} (g : ℕ → List (Bool × F)) where
 
   each_below : (n : ℕ) → first_fault (flat_map g (range_with_len 0 n)) ≡ Ok tt → (k : ℕ) → k < n → first_fault (g k) ≡ Ok tt
   each_below n e k h = subst (λ i. first_fault (g i) ≡ Ok tt) (get_or-range_with_len 0 n k 0 h ∙ omega arith) (each_passes (range_with_len 0 n) e k (omega (arith, length-range_with_len 0 n)))
+
+-- the first n of eight spans are as stated, and what lies past them is 0
+module _ (n : ℕ) (low high : ℕ → ℤ) where
+  pub length_spans : length (eight_spans n low high) ≡ 8
+  length_spans = length-map-range_with_len (span_or_0 n low high) 0 8
+
+  span_at : (k : ℕ) → k < 8 → slice_index_or (eight_spans n low high) k zero_span ≡ span_or_0 n low high k
+  span_at k l = get_or-map-range_with_len (span_or_0 n low high) 0 8 k k zero_span l (omega arith)
+
+  pub span_before : (k : ℕ) → n ≤ 8 → k < n → slice_index_or (eight_spans n low high) k zero_span ≡ record { low = low k; high = high k }
+  span_before k most l = span_at k (omega arith) ∙ cond-true (nat_lt k n) _ zero_span (lt-ltb k n l)
+
+  pub span_past : (k : ℕ) → n ≤ k → slice_index_or (eight_spans n low high) k zero_span ≡ zero_span
+  span_past k l = ⊎_elim (λ (b : k < 8). span_at k b ∙ cond-false (nat_lt k n) _ zero_span (le-ltb k n l)) (λ (b : 8 ≤ k). get_or_past (eight_spans n low high) k zero_span (omega (arith, length_spans))) (cases_lt k 8)
 
 pub within_parts : (b : ℕ) (z : ℤ) → within b z ≡ true → (neg_ℤ (pos b) ≤ℤ z) × (z ≤ℤ pos b)
 within_parts b z e = let p = and_parts (le_z (neg_ℤ (pos b)) z) (le_z z (pos b)) e in (omega (arith, ints, p.0), omega (arith, ints, p.1))

@@ -7,12 +7,18 @@ ghost use Rattle.interface.specs.Numbers.{within};
 
 use super::fault::RecordFault;
 
-// The first `n` lows and highs count; what lies past them is ignored.
+// From where to where a setting may go.
+#[derive(Clone, Copy, Debug, Default, PartialEq, Eq)]
+pub struct Span {
+    pub low: i32,
+    pub high: i32,
+}
+
+// The first `n` spans count; what lies past them is ignored.
 #[derive(Clone, Copy)]
 pub struct Home {
     pub n: u8,
-    pub lows: [i32; 8],
-    pub highs: [i32; 8],
+    pub spans: [Span; 8],
 }
 
 // Whether z is at most a million away from 0.
@@ -39,10 +45,11 @@ impl Home {
         requires { k < 8 }
         ensures { result ≡ first_fault (range_grounds self.now k) }
     {
-        if !in_range(self.lows[k as usize]) {
+        let span = self.spans[k as usize];
+        if !in_range(span.low) {
             return Err(RecordFault::Range(3 + 8 * k as u16));
         }
-        if !in_range(self.highs[k as usize]) {
+        if !in_range(span.high) {
             return Err(RecordFault::Range(7 + 8 * k as u16));
         }
         Ok(())
@@ -52,7 +59,8 @@ impl Home {
         requires { k < 8 }
         ensures { result ≡ first_fault (crossed_grounds self.now k) }
     {
-        if self.highs[k as usize] < self.lows[k as usize] {
+        let span = self.spans[k as usize];
+        if span.high < span.low {
             return Err(RecordFault::Crossed(7 + 8 * k as u16));
         }
         Ok(())

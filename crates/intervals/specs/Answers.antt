@@ -1,26 +1,24 @@
 -- What an interval box answers to each question. Assumes nothing.
-use Rattle.std.specs.Prelude.{ℕ, Bool, false, cond, not, ◌&&◌, ◌||◌, List, map, length, ℤ, pos, ◌+ℤ◌, ◌-ℤ◌, neg_ℤ, Some, None, Option, ◌==◌, int_le, nat_lt, slice_index_or}
+use Rattle.std.specs.Prelude.{ℕ, Bool, false, cond, not, ◌&&◌, ◌||◌, List, map, length, ℤ, pos, ◌+ℤ◌, ◌-ℤ◌, neg_ℤ, Some, None, Option, ◌==◌, int_le, slice_index_or}
 use Rattle.std.specs.List.{range_with_len}
 use Rattle.std.specs.Int.{int_min, int_max}
 use Rattle.interface.specs.declared.cut.Cut.{Cut}
 use Rattle.interface.specs.declared.extent.Extent.{Extent}
 use Rattle.interface.specs.declared.extent.Extent.TheVariants.{Void, Lone, Open}
 use Rattle.interface.specs.declared.home.Home.{Home}
+use Rattle.interface.specs.declared.home.Span.{Span}
 use Rattle.interface.specs.declared.point.Point.{Point}
+use Rattle.interface.specs.Homes.{low_of, high_of, eight_spans}
 use Rattle.interface.specs.Nodes.{opp}
 use Rattle.interface.specs.Numbers.{half}
 use Rattle.halving.specs.First.{every}
 use Rattle.halving.specs.Halvings.{all_single, halvings_of, widest_of}
 use Rattle.intervals.specs.declared.interval_box.IntervalBox.{IntervalBox}
-use Rattle.intervals.specs.declared.interval_box.Span.{Span}
-use Rattle.intervals.specs.Boxes.{zero_span, low_at, high_at, least, greatest, widths_of, on_line, bounded, at_most, at_least}
+use Rattle.intervals.specs.Boxes.{low_at, high_at, least, greatest, widths_of, on_line, bounded, at_most, at_least}
 
--- the home's span of setting k, and 0 past its settings
-abbrev pub home_span : Home → ℕ → Span
-home_span h k = cond (nat_lt k h.n) (record { low = slice_index_or h.lows k (pos 0); high = slice_index_or h.highs k (pos 0) }) zero_span
-
+-- the home's spans, and 0 past its settings
 unfoldable pub home_spans : Home → List Span
-home_spans h = map (home_span h) (range_with_len 0 8)
+home_spans h = eight_spans h.n (low_of h) (high_of h)
 
 abbrev pub start_box : Home → IntervalBox
 start_box h = record { n = h.n; void = false; spans = home_spans h }

@@ -1,14 +1,10 @@
 -- The interval box: its ranges, and what bounding a setting leaves of it. Assumes nothing.
-use Rattle.std.specs.Prelude.{ℕ, ◌*◌, ◌/◌, ◌%◌, Bool, true, cond, List, map, replicate, ℤ, pos, neg_ℤ, ◌==◌, int_lt, nat_lt, slice_index_or, slice_set}
+use Rattle.std.specs.Prelude.{ℕ, ◌*◌, ◌/◌, ◌%◌, Bool, true, cond, List, map, replicate, ℤ, neg_ℤ, ◌==◌, int_lt, nat_lt, slice_index_or, slice_set}
 use Rattle.std.specs.List.{range_with_len}
 use Rattle.std.specs.Int.{int_min, int_max}
+use Rattle.interface.specs.Homes.{zero_span}
 use Rattle.halving.specs.Halvings.{width}
 use Rattle.intervals.specs.declared.interval_box.IntervalBox.{IntervalBox}
-use Rattle.intervals.specs.declared.interval_box.Span.{Span}
-
--- the span of one value, 0
-abbrev pub zero_span : Span
-zero_span = record { low = pos 0; high = pos 0 }
 
 -- the least and the greatest value of setting k
 abbrev pub low_at : IntervalBox → ℕ → ℤ

@@ -9,7 +9,8 @@ use Rattle.halving.specs.Halvings.{width, widest_of, all_single}
 use Rattle.halving.proofs.First.{all_decides}
 use Rattle.halving.proofs.Places.{widest_is}
 use Rattle.intervals.specs.declared.interval_box.IntervalBox.{IntervalBox}
-use Rattle.intervals.specs.Boxes.{zero_span, low_at, high_at, widths_of}
+use Rattle.interface.specs.Homes.{zero_span}
+use Rattle.intervals.specs.Boxes.{low_at, high_at, widths_of}
 use Rattle.intervals.specs.Answers.{extent_box, closed}
 use Rattle.intervals.specs.Sound.{Sound}
 use Rattle.intervals.specs.Widths.{length_widths, width_at}

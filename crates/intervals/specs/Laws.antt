@@ -8,6 +8,7 @@ use Rattle.std.proofs.lemmas.Bool.{both_ways, cond-true, cond-false}
 use Rattle.std.proofs.lemmas.Bool.Decides.{Decides-like}
 use Rattle.interface.specs.declared.extent.Extent.TheVariants.{Void, Lone, Open}
 use Rattle.interface.specs.declared.home.Home.{Home}
+use Rattle.interface.specs.declared.home.Span.{Span}
 use Rattle.interface.specs.declared.point.Point.{Point}
 use Rattle.interface.specs.Homes.{Passes, InHome}
 use Rattle.interface.specs.Points.{values_of}
@@ -17,7 +18,6 @@ use Rattle.halving.specs.Halvings.{widest_of}
 use Rattle.halving.proofs.Lowers.{halvings_some}
 use Rattle.halving.proofs.Places.{widest_is}
 use Rattle.intervals.specs.declared.interval_box.IntervalBox.{IntervalBox}
-use Rattle.intervals.specs.declared.interval_box.Span.{Span}
 use Rattle.intervals.specs.Boxes.{low_at, widths_of, greatest, at_most}
 use Rattle.intervals.specs.Answers.{start_box, clipped, limited, limit_box, closed, lower_box, upper_box, middle, extent_box, holds_box, all_lows, offer_box, halvings_box}
 use Rattle.intervals.specs.Model.{box_model}
@@ -25,7 +25,7 @@ use Rattle.intervals.specs.Cutting.{cut_cuts}
 use Rattle.intervals.specs.Extents.{void_says, closed_says, Lonely, lone_says, Opened, open_says}
 use Rattle.intervals.specs.Holding.{In, coord, holds_decides}
 use Rattle.intervals.specs.Limits.{off_limited, opposite_limited, void_limited, limit_is_within, limit_is_even, sum_below, lone_sum}
-use Rattle.intervals.specs.Sound.{Sound, start_sound, span_before}
+use Rattle.intervals.specs.Sound.{Sound, start_sound, home_span_at}
 use Rattle.intervals.specs.Splitting.{lower_restricts, upper_restricts, lower_lowers, upper_lowers, holds_not, split_counts}
 use Rattle.intervals.specs.Widths.{length_widths, width_at, halvings_full}
 
@@ -55,8 +55,8 @@ Within z r = (r.low ≤ℤ z) × (z ≤ℤ r.high)
 start_in : (h : Home) → Passes h → (x : List ℤ) → (In (start_box h) x → InHome h x) × (InHome h x → In (start_box h) x)
 start_in h ok x =
     let most = (passed_n h ok).1 in (
-      (λ i. (i.sized, λ k l. subst (Within (coord x k)) (span_before h k most l) (i.inside k l))),
-      (λ i. record { full = refl; sized = i.0; inside = λ k l. subst (Within (coord x k)) (sym (span_before h k most l)) (i.1 k l) }),
+      (λ i. (i.sized, λ k l. subst (Within (coord x k)) (home_span_at h k most l) (i.inside k l))),
+      (λ i. record { full = refl; sized = i.0; inside = λ k l. subst (Within (coord x k)) (sym (home_span_at h k most l)) (i.1 k l) }),
     )
 
 low_is : (s : IntervalBox) → Sound s → (k : ℕ) → k < s.n → coord (take s.n (all_lows s)) k ≡ low_at s k

@@ -1,17 +1,16 @@
 -- What every made box keeps: ranges in order within a million, 0 past the line. Narrowing a range within itself keeps it. Assumes nothing.
-use Rattle.std.specs.Prelude.{◌≡◌, ℕ, ◌<◌, ◌≤◌, Bool, true, false, cond, length, replicate, ℤ, pos, neg_ℤ, ◌≤ℤ◌, ◌<ℤ◌, ◌≢◌, int_lt, nat_lt, slice_index_or, slice_set, refl}
+use Rattle.std.specs.Prelude.{◌≡◌, ℕ, ◌<◌, ◌≤◌, Bool, true, false, cond, length, replicate, ℤ, pos, neg_ℤ, ◌≤ℤ◌, ◌<ℤ◌, ◌≢◌, int_lt, slice_index_or, slice_set, refl}
 use Rattle.std.proofs.Common.{⊎_elim, sym, subst, ◌∙◌, arith, length-set}
-use Rattle.std.proofs.lemmas.List.FromFn.{length-map-range_with_len, get_or-map-range_with_len}
 use Rattle.std.proofs.lemmas.List.{get_or-replicate, get_or_past, length-replicate, get_or-set_same, get_or-set_other}
 use Rattle.std.proofs.lemmas.Int.{ints}
-use Rattle.std.proofs.lemmas.Bool.{cases_lt, cases_eq, cond-true, cond-false, lt-ltb, le-ltb}
+use Rattle.std.proofs.lemmas.Bool.{cases_lt, cases_eq}
 use Rattle.interface.specs.declared.home.Home.{Home}
-use Rattle.interface.specs.Homes.{low_of, high_of, Passes}
-use Rattle.interface.proofs.Homes.{passed_n, passed_at}
+use Rattle.interface.specs.declared.home.Span.{Span}
+use Rattle.interface.specs.Homes.{zero_span, low_of, high_of, Passes}
+use Rattle.interface.proofs.Homes.{passed_n, passed_at, length_spans, span_before, span_past}
 use Rattle.intervals.specs.declared.interval_box.IntervalBox.{IntervalBox}
-use Rattle.intervals.specs.declared.interval_box.Span.{Span}
-use Rattle.intervals.specs.Boxes.{zero_span, low_at, high_at, voided, with_range, narrowed}
-use Rattle.intervals.specs.Answers.{home_span, home_spans, start_box}
+use Rattle.intervals.specs.Boxes.{low_at, high_at, voided, with_range, narrowed}
+use Rattle.intervals.specs.Answers.{home_spans, start_box}
 
 -- the range of setting k of a line with n settings
 pub record Good (n k : ℕ) (low high : ℤ) : Type 0 where
@@ -77,32 +76,24 @@ module _ (s : IntervalBox) (sd : Sound s) (k : ℕ) (on : k < s.n) (lo hi : ℤ)
         good = range_good le;
       })
 
--- the home's own spans before n, 0 past it
-home_span_at : (h : Home) (k : ℕ) → k < 8 → slice_index_or (home_spans h) k zero_span ≡ home_span h k
+-- the home's own span before n
+pub home_span_at : (h : Home) (k : ℕ) → h.n ≤ 8 → k < h.n → slice_index_or (home_spans h) k zero_span ≡ record { low = low_of h k; high = high_of h k }
 unfolding home_spans
-home_span_at h k l = get_or-map-range_with_len (home_span h) 0 8 k k zero_span l (omega arith)
-
-pub span_before : (h : Home) (k : ℕ) → h.n ≤ 8 → k < h.n → slice_index_or (home_spans h) k zero_span ≡ record { low = low_of h k; high = high_of h k }
-span_before h k most l = home_span_at h k (omega arith) ∙ cond-true (nat_lt k h.n) _ zero_span (lt-ltb k h.n l)
-
-length_home_spans : (h : Home) → length (home_spans h) ≡ 8
-unfolding home_spans
-length_home_spans h = length-map-range_with_len (home_span h) 0 8
-
-span_past : (h : Home) (k : ℕ) → h.n ≤ k → slice_index_or (home_spans h) k zero_span ≡ zero_span
-span_past h k l = ⊎_elim (λ (b : k < 8). home_span_at h k b ∙ cond-false (nat_lt k h.n) _ zero_span (le-ltb k h.n l)) (λ (b : 8 ≤ k). get_or_past (home_spans h) k zero_span (omega (arith, length_home_spans h))) (cases_lt k 8)
+home_span_at h k most l = span_before h.n (low_of h) (high_of h) k most l
 
 module _ (h : Home) (ok : Passes h) where
   start_good : (k : ℕ) → Good h.n k (low_at (start_box h) k) (high_at (start_box h) k)
+  unfolding home_spans
   start_good k = ⊎_elim on off (cases_lt k h.n)
     where
       on : k < h.n → Good h.n k (low_at (start_box h) k) (high_at (start_box h) k)
       on l =
           let p = passed_at h ok k l in
-          subst (λ r. Good h.n k r.low r.high) (sym (span_before h k (passed_n h ok).1 l)) (record { ordered = p.ordered; bottom = p.low_within.0; top = p.high_within.1; past = λ n≤k. absurd (omega arith) })
+          subst (λ r. Good h.n k r.low r.high) (sym (home_span_at h k (passed_n h ok).1 l)) (record { ordered = p.ordered; bottom = p.low_within.0; top = p.high_within.1; past = λ n≤k. absurd (omega arith) })
 
       off : h.n ≤ k → Good h.n k (low_at (start_box h) k) (high_at (start_box h) k)
-      off l = subst (λ r. Good h.n k r.low r.high) (sym (span_past h k l)) (zero_good h.n k)
+      off l = subst (λ r. Good h.n k r.low r.high) (sym (span_past h.n (low_of h) (high_of h) k l)) (zero_good h.n k)
 
   pub start_sound : Sound (start_box h)
-  start_sound = record { some = (passed_n h ok).0; most = (passed_n h ok).1; spans_are = length_home_spans h; good = start_good }
+  unfolding home_spans
+  start_sound = record { some = (passed_n h ok).0; most = (passed_n h ok).1; spans_are = length_spans h.n (low_of h) (high_of h); good = start_good }

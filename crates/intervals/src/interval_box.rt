@@ -3,12 +3,7 @@ mod bound;
 mod range;
 pub mod shape;
 
-// From where to where a setting may go.
-#[derive(Clone, Copy)]
-struct Span {
-    low: i32,
-    high: i32,
-}
+use interface::home::Span;
 
 // The first `n` spans count, and those past them are 0 in every box that is made. A void box holds no point, and its
 // spans are all 0: they stand beside the flag and not in an `Option`, since a void box answers for its ranges too.

@@ -1,10 +1,10 @@
 -- The home frame: 01, the number n of settings, then n times low and high, four bytes each. Assumes nothing.
-use Rattle.std.specs.Prelude.{ℕ, ◌+◌, ◌*◌, ◌/◌, ◌%◌, min, cond, List, map, ℤ, pos, ◌==◌, nat_lt, slice_index}
+use Rattle.std.specs.Prelude.{ℕ, ◌+◌, ◌*◌, ◌/◌, ◌%◌, min, cond, List, map, ℤ, ◌==◌, slice_index}
 use Rattle.std.specs.Int.{w32}
 use Rattle.std.proofs.Common.{to_z}
 use Rattle.std.specs.List.{range_with_len}
 use Rattle.interface.specs.declared.home.Home.{Home}
-use Rattle.interface.specs.Homes.{low_of, high_of, home_check}
+use Rattle.interface.specs.Homes.{low_of, high_of, eight_spans, home_check}
 use Rattle.wire.specs.Bytes.{val, part}
 use Rattle.wire.specs.Frames.{FrameModel}
 use Rattle.wire.specs.Words.{words_frame_byte}
@@ -24,27 +24,22 @@ home_words h = map (home_word h) (range_with_len 0 16)
 abbrev pub home_byte : Home → ℕ → ℕ
 home_byte h = words_frame_byte 1 h.n (home_words h)
 
--- eight places by their index, 0 past the first n
-abbrev pub first_or_0 : ℕ → (ℕ → ℤ) → ℕ → ℤ
-first_or_0 n f k = cond (nat_lt k n) (f k) (pos 0)
-
-abbrev pub eight : ℕ → (ℕ → ℤ) → List ℤ
-eight n f = map (first_or_0 n f) (range_with_len 0 8)
-
 -- a record has at most eight settings to write
 abbrev pub write_home : Home → List ℕ
 write_home h = map (home_byte h) (range_with_len 0 (2 + 8 * min h.n 8))
 
 -- setting k's low starts at byte 2 + 8k, its high at byte 6 + 8k, counted from 0
+abbrev pub low_in : List ℕ → ℕ → ℤ
+low_in bs k = word_at bs (2 + 8 * k)
+
+abbrev pub high_in : List ℕ → ℕ → ℤ
+high_in bs k = word_at bs (6 + 8 * k)
+
 abbrev pub read_home : List ℕ → Home
-read_home bs = record {
-  n = slice_index bs 1;
-  lows = eight (slice_index bs 1) (λ k. word_at bs (2 + 8 * k));
-  highs = eight (slice_index bs 1) (λ k. word_at bs (6 + 8 * k));
-}
+read_home bs = record { n = slice_index bs 1; spans = eight_spans (slice_index bs 1) (low_in bs) (high_in bs) }
 
 abbrev pub counted_home : Home → Home
-counted_home h = record { n = h.n; lows = eight h.n (low_of h); highs = eight h.n (high_of h) }
+counted_home h = record { n = h.n; spans = eight_spans h.n (low_of h) (high_of h) }
 
 abbrev pub home_frame : FrameModel Home
 home_frame = record {

@@ -7,15 +7,16 @@ use Rattle.std.specs.List.{range_with_len}
 use Rattle.std.proofs.lemmas.List.FromFn.{fill_by_all, get_or-map-range_with_len, length-map-range_with_len}
 use Rattle.std.proofs.lemmas.List.Elements.{All-from_get_or}
 use Rattle.std.proofs.lemmas.Int.{to_z-of_z}
-use Rattle.std.proofs.lemmas.Bool.{cond-true, cond-false, cases_lt, lt-ltb, le-ltb, eq-eqb, ne_eqb}
+use Rattle.std.proofs.lemmas.Bool.{cond-true, cond-false, cases_lt, le-ltb, eq-eqb, ne_eqb}
 use Rattle.interface.specs.declared.home.Home.{Home}
 use Rattle.interface.specs.declared.fault.RecordFault.TheVariants.{Range, Crossed}
 use Rattle.interface.specs.Grounds.{first_fault, next}
-use Rattle.interface.specs.Homes.{Passes, low_of, high_of, home_check, settings_grounds, range_grounds, crossed_grounds}
+use Rattle.interface.specs.Homes.{Passes, zero_span, low_of, high_of, span_or_0, eight_spans, home_check, settings_grounds, range_grounds, crossed_grounds}
 use Rattle.interface.specs.Numbers.{within}
+use Rattle.interface.proofs.Homes.{span_before}
 use Rattle.wire.specs.Bytes.{be, val}
 use Rattle.wire.specs.Frames.{FrameLaws, Accepted, field}
-use Rattle.wire.specs.HomeFrame.{word_at, home_word, home_words, home_byte, first_or_0, eight, write_home, read_home, counted_home, home_frame}
+use Rattle.wire.specs.HomeFrame.{word_at, home_word, home_words, home_byte, low_in, high_in, write_home, read_home, counted_home, home_frame}
 use Rattle.wire.specs.BigEndian.{small_be, val_be}
 use Rattle.wire.specs.Codecs.{write_one, get_or_part, part_is, byte_small}
 use Rattle.wire.specs.Words.{word_byte, words_byte}
@@ -52,19 +53,17 @@ module _ (h : Home) (k r : ℕ) (on : k < 8) (small : r < 4) where
       word_at_place (6 + 8 * k + r) (2 * k + 1) (omega arith) (omega arith) (omega arith) (omega arith)
       ∙ ap (λ z. word_byte z r) (cond-false ((2 * k + 1) % 2 == 0) _ _ (ne_eqb _ _ (λ e. omega arith)) ∙ ap (high_of h) half)
 
--- eight places agree where the first n do
-first_same : (n : ℕ) (f g : ℕ → ℤ) (k : ℕ) → (k < n → f k ≡ g k) → first_or_0 n f k ≡ first_or_0 n g k
-first_same n f g k e = way (cases_lt k n)
-  where
-    way : (k < n) ⊎ (n ≤ k) → first_or_0 n f k ≡ first_or_0 n g k
-    way (inl lt) = ap (λ z. cond (nat_lt k n) z (pos 0)) (e lt)
-    way (inr le) = cond-false (nat_lt k n) _ _ (le-ltb k n le) ∙ sym (cond-false (nat_lt k n) _ _ (le-ltb k n le))
+-- eight spans agree where the first n do
+module _ (n : ℕ) (low high low' high' : ℕ → ℤ) (lows : (k : ℕ) → k < n → low k ≡ low' k) (highs : (k : ℕ) → k < n → high k ≡ high' k) where
+  span_same : (k : ℕ) → span_or_0 n low high k ≡ span_or_0 n low' high' k
+  span_same k = way (cases_lt k n)
+    where
+      way : (k < n) ⊎ (n ≤ k) → span_or_0 n low high k ≡ span_or_0 n low' high' k
+      way (inl lt) = λ i. cond (nat_lt k n) (record { low = lows k lt i; high = highs k lt i }) zero_span
+      way (inr le) = cond-false (nat_lt k n) _ _ (le-ltb k n le) ∙ sym (cond-false (nat_lt k n) _ _ (le-ltb k n le))
 
-eight_same : (n : ℕ) (f g : ℕ → ℤ) → ((k : ℕ) → k < n → f k ≡ g k) → eight n f ≡ eight n g
-eight_same n f g e = λ i. map (λ k. first_same n f g k (e k) i) (range_with_len 0 8)
-
-eight_at : (n : ℕ) (f : ℕ → ℤ) (k : ℕ) → n ≤ 8 → k < n → slice_index_or (eight n f) k (pos 0) ≡ f k
-eight_at n f k top lt = get_or-map-range_with_len (first_or_0 n f) 0 8 k k (pos 0) (omega arith) (omega arith) ∙ cond-true (nat_lt k n) _ _ (lt-ltb k n lt)
+  spans_same : eight_spans n low high ≡ eight_spans n low' high'
+  spans_same = λ i. map (λ k. span_same k i) (range_with_len 0 8)
 
 -- the record comes back from its bytes
 module _ (h : Home) (ok : Passes h) where
@@ -90,9 +89,9 @@ module _ (h : Home) (ok : Passes h) where
 
   home_back : read_home (write_home h) ≡ counted_home h
   home_back =
-      let lows : eight (slice_index (write_home h) 1) (λ k. word_at (write_home h) (2 + 8 * k)) ≡ eight h.n (low_of h) = ap (λ m. eight m (λ k. word_at (write_home h) (2 + 8 * k))) count_back ∙ eight_same h.n _ _ low_back in
-      let highs : eight (slice_index (write_home h) 1) (λ k. word_at (write_home h) (6 + 8 * k)) ≡ eight h.n (high_of h) = ap (λ m. eight m (λ k. word_at (write_home h) (6 + 8 * k))) count_back ∙ eight_same h.n _ _ high_back in
-      λ i. record { n = count_back i; lows = lows i; highs = highs i }
+      let bs = write_home h in
+      let spans : eight_spans (slice_index bs 1) (low_in bs) (high_in bs) ≡ eight_spans h.n (low_of h) (high_of h) = ap (λ m. eight_spans m (low_in bs) (high_in bs)) count_back ∙ spans_same h.n _ _ _ _ low_back high_back in
+      λ i. record { n = count_back i; spans = spans i }
 
   word_small : (z : ℤ) (r : ℕ) → FitsSigned w32 z → word_byte z r < 256
   word_small z r fits = byte_small (be 4 (of_z w32 z)) r (small_be 4 (of_z w32 z) (Fits-of_z fits).fits)
@@ -106,8 +105,8 @@ module _ (h : Home) (ok : Passes h) where
   -- what lies past the settings is not checked
   counted_ok : Passes (counted_home h)
   counted_ok =
-      let low = λ (k : ℕ) (lt : k < h.n). eight_at h.n (low_of h) k (settings_ok h ok).1 lt in
-      let high = λ (k : ℕ) (lt : k < h.n). eight_at h.n (high_of h) k (settings_ok h ok).1 lt in
+      let low = λ (k : ℕ) (lt : k < h.n). ap (λ s. s.low) (span_before h.n (low_of h) (high_of h) k (settings_ok h ok).1 lt) in
+      let high = λ (k : ℕ) (lt : k < h.n). ap (λ s. s.high) (span_before h.n (low_of h) (high_of h) k (settings_ok h ok).1 lt) in
       let ranges = joined_same (range_grounds (counted_home h)) (range_grounds h) 0 h.n (λ k le lt i. (not (within 1000000 (low k (omega arith) i)), Range (3 + 8 * k)) ∷ (not (within 1000000 (high k (omega arith) i)), Range (7 + 8 * k)) ∷ []) in
       let orders = joined_same (crossed_grounds (counted_home h)) (crossed_grounds h) 0 h.n (λ k le lt i. (int_lt (high k (omega arith) i) (low k (omega arith) i), Crossed (7 + 8 * k)) ∷ []) in
       let same : home_check (counted_home h) ≡ home_check h = λ i. next (first_fault (settings_grounds h)) (next (first_fault (ranges i)) (first_fault (orders i))) in
@@ -134,8 +133,8 @@ module _ (n : ℕ) (bs : List ℕ) (a : Accepted home_frame n bs) where
 
   byte_again : (j : ℕ) → j < 2 + 8 * slice_index bs 1 → slice_index bs j ≡ home_byte h j
   byte_again = by_place (λ j. slice_index bs j ≡ home_byte h j) (slice_index bs 1) a.coded refl
-      (λ k r lt small. sym (home_low h k r (omega (arith, top)) small ∙ word_again (2 + 8 * k) (low_of h k) r small (eight_at (slice_index bs 1) (λ k. word_at bs (2 + 8 * k)) k top lt)))
-      (λ k r lt small. sym (home_high h k r (omega (arith, top)) small ∙ word_again (6 + 8 * k) (high_of h k) r small (eight_at (slice_index bs 1) (λ k. word_at bs (6 + 8 * k)) k top lt)))
+      (λ k r lt small. sym (home_low h k r (omega (arith, top)) small ∙ word_again (2 + 8 * k) (low_of h k) r small (ap (λ s. s.low) (span_before (slice_index bs 1) (low_in bs) (high_in bs) k top lt))))
+      (λ k r lt small. sym (home_high h k r (omega (arith, top)) small ∙ word_again (6 + 8 * k) (high_of h k) r small (ap (λ s. s.high) (span_before (slice_index bs 1) (low_in bs) (high_in bs) k top lt))))
 
   frame_back : write_home (read_home bs) ≡ bs
   frame_back = sym (fill_by_all (home_byte h) bs (2 + 8 * min (slice_index bs 1) 8) 0 (a.sized ∙ omega (arith, top)) (λ j lt. byte_again j (omega arith)))

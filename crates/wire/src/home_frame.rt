@@ -1,33 +1,29 @@
 // The home record's frame: 01, the number of settings, then the low and the high of each, four bytes each.
 ghost use Rattle.std.specs.Prelude.{◌≡◌, ◌+◌, ◌*◌, ◌<◌};
 ghost use Rattle.wire.specs.Bytes.{unhex};
-ghost use Rattle.wire.specs.HomeFrame.{word_at, first_or_0, eight, home_word, home_words, home_frame};
+ghost use Rattle.interface.specs.Homes.{span_or_0};
+ghost use Rattle.wire.specs.HomeFrame.{low_in, high_in, home_word, home_words, home_frame};
 ghost use Rattle.wire.specs.HomeTrips.{home_laws};
 
 use super::bytes::{byte_at, i32_at};
 use super::frame::{Frame, FrameKind};
 use super::output::Output;
 use super::words::words_frame;
-use interface::home::Home;
+use interface::home::{Home, Span};
 use std::array;
 
-// The number from byte `from + 8k` on, 0 past the first n.
-fn word(digits: &[u8], n: u8, from: u16, k: u8) -> i32
-    requires { from < 8 }
-    ensures { result ≡ first_or_0 n (λ t. word_at (unhex digits.now) (from + 8 * t)) k }
+// The low and the high of setting k, 0 past the first n.
+fn span(digits: &[u8], n: u8, k: u8) -> Span
+    ensures { result ≡ span_or_0 n (low_in (unhex digits.now)) (high_in (unhex digits.now)) k }
 {
     if k < n {
-        i32_at(digits, from + 8 * k as u16)
+        Span {
+            low: i32_at(digits, 2 + 8 * k as u16),
+            high: i32_at(digits, 6 + 8 * k as u16),
+        }
     } else {
-        0
+        Span::default()
     }
-}
-
-fn words(digits: &[u8], n: u8, from: u16) -> [i32; 8]
-    requires { from < 8 }
-    ensures { result ≡ eight n (λ t. word_at (unhex digits.now) (from + 8 * t)) }
-{
-    array::from_fn(|k| word(digits, n, from, k as u8))
 }
 
 // Low and high of each setting in turn.
@@ -35,11 +31,8 @@ fn home_word(home: &Home, k: usize) -> i32
     requires { k < 16 }
     ensures { result ≡ home_word home.now k }
 {
-    if k % 2 == 0 {
-        home.lows[k / 2]
-    } else {
-        home.highs[k / 2]
-    }
+    let span = home.spans[k / 2];
+    if k % 2 == 0 { span.low } else { span.high }
 }
 
 fn home_words(home: &Home) -> [i32; 16]
@@ -65,8 +58,7 @@ impl Frame for Home {
         let n = byte_at(digits, 1);
         Home {
             n,
-            lows: words(digits, n, 2),
-            highs: words(digits, n, 6),
+            spans: array::from_fn(|k| span(digits, n, k as u8)),
         }
     }
 

@@ -2,7 +2,8 @@
 ghost use Rattle.std.specs.Prelude.{◌≡◌, ◌^◌, pos, neg_ℤ, ◌≤ℤ◌, ◌<ℤ◌};
 ghost use Rattle.intervals.specs.Boxes.{voided, with_range, narrowed, at_most, at_least, bounded};
 
-use super::{IntervalBox, Span};
+use super::IntervalBox;
+use interface::home::Span;
 
 impl IntervalBox {
     // The one void box of as many settings.
@@ -12,7 +13,7 @@ impl IntervalBox {
         IntervalBox {
             n: self.n,
             void: true,
-            spans: [Span { low: 0, high: 0 }; 8],
+            spans: [Span::default(); 8],
         }
     }
 

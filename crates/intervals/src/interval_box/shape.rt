@@ -6,11 +6,11 @@ ghost use Rattle.intervals.specs.Answers.{home_spans, start_box, cut_box, closed
 ghost use Rattle.intervals.specs.Model.{box_model};
 ghost use Rattle.intervals.specs.Laws.{box_laws};
 
-use super::{IntervalBox, Span};
+use super::IntervalBox;
 use halving::{halvings, single, widest};
 use interface::cut::Cut;
 use interface::extent::Extent;
-use interface::home::Home;
+use interface::home::{Home, Span};
 use interface::node::opposite;
 use interface::point::Point;
 use interface::shape::Shape;
@@ -21,12 +21,9 @@ fn spans_of(home: &Home) -> [Span; 8]
     ensures { result ≡ home_spans home.now }
 {
     array::from_fn(|k| if k < home.n as usize {
-        Span {
-            low: home.lows[k],
-            high: home.highs[k],
-        }
+        home.spans[k]
     } else {
-        Span { low: 0, high: 0 }
+        Span::default()
     })
 }
 
