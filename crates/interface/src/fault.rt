@@ -72,7 +72,8 @@ pub enum SolverFault {
     Void,
 }
 
-// A fault in numbers: its number, the layer that found it, and the place that it names, 0 where it names none.
+// A fault in numbers, as the line that C reads has it: its number, the layer that found it, and the place that it names,
+// 0 where it names none.
 #[derive(Clone, Copy, Debug, PartialEq, Eq)]
 pub struct Code {
     pub number: u8,

@@ -6,6 +6,7 @@ ghost use Rattle.interface.specs.Homes.{home_check, range_grounds, crossed_groun
 ghost use Rattle.interface.specs.Numbers.{within};
 
 use super::fault::RecordFault;
+use super::guard::first_fault;
 
 // From where to where a setting may go.
 #[derive(Clone, Copy, Debug, Default, PartialEq, Eq)]
@@ -14,7 +15,8 @@ pub struct Span {
     pub high: i32,
 }
 
-// The first `n` spans count; what lies past them is ignored.
+// The first `n` spans count; what lies past them is ignored. An array and a count, since n may be one that the check
+// refuses.
 #[derive(Clone, Copy)]
 pub struct Home {
     pub n: u8,
@@ -46,13 +48,10 @@ impl Home {
         ensures { result ≡ first_fault (range_grounds self.now k) }
     {
         let span = self.spans[k as usize];
-        if !in_range(span.low) {
-            return Err(RecordFault::Range(3 + 8 * k as u16));
-        }
-        if !in_range(span.high) {
-            return Err(RecordFault::Range(7 + 8 * k as u16));
-        }
-        Ok(())
+        first_fault(&[
+            (!in_range(span.low), RecordFault::Range(3 + 8 * k as u16)),
+            (!in_range(span.high), RecordFault::Range(7 + 8 * k as u16)),
+        ])
     }
 
     fn check_crossed(&self, k: u8) -> Result<(), RecordFault>
@@ -60,10 +59,7 @@ impl Home {
         ensures { result ≡ first_fault (crossed_grounds self.now k) }
     {
         let span = self.spans[k as usize];
-        if span.high < span.low {
-            return Err(RecordFault::Crossed(7 + 8 * k as u16));
-        }
-        Ok(())
+        first_fault(&[(span.high < span.low, RecordFault::Crossed(7 + 8 * k as u16))])
     }
 
     fn check_ranges(&self) -> Result<(), RecordFault>
@@ -80,6 +76,8 @@ impl Home {
         requires { self.now.n ≤ 8 }
         ensures { result ≡ first_fault (flat_map (crossed_grounds self.now) (range_with_len 0 self.now.n)) }
     {
+        // a loop of its own, as every range is tried before any order; one function over either check would need
+        // longer clauses than both loops
         for k in 0..self.n {
             self.check_crossed(k)?;
         }

@@ -3,7 +3,8 @@ ghost use Rattle.std.specs.Prelude.{◌≡◌, ◌^◌, ◌≤◌, length, pos, 
 ghost use Rattle.interface.specs.Nodes.{value};
 ghost use Rattle.interface.specs.Points.{values_of};
 
-// The first `n` values count; what lies past them is ignored.
+// The first `n` values count; what lies past them is ignored. An array and a count, since points are copied into lent
+// slices and an ArrayVec is not Copy.
 #[derive(Clone, Copy)]
 pub struct Point {
     pub n: u8,

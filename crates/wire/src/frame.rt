@@ -6,7 +6,8 @@ ghost use Rattle.wire.specs.Frames.{FrameModel, FrameLaws};
 
 use super::output::Output;
 
-// A frame's first byte, and how many bytes it has: `base` and, for each that its second byte counts, `each` more.
+// A frame's first byte, and how many bytes it has: `base` and, for each that its second byte counts, `each` more. The
+// code is the byte and no enum: kinds are open, and each record names its own.
 #[derive(Clone, Copy)]
 pub struct FrameKind {
     pub code: u8,

@@ -34,6 +34,7 @@ pub fn check_frame(digits: &[u8], first: bool, kinds: &[FrameKind]) -> Result<()
     let Some(kind) = find_kind(kinds, code) else {
         return Err(FrameFault::Kind(1));
     };
+    // 1 is the home's byte; what else is known the caller says
     if first != (code == 1) {
         return Err(FrameFault::Order(1));
     }
