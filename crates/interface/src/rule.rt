@@ -29,7 +29,8 @@ pub trait Rule: Copy {
     fn standing(&self, n: u8) -> Option<Cut>
         ensures { result ≡ model.standing n self.now };
 
-    // Cut 0, 1 or 2 that every point within the limits that meets the rule meets, where there is one.
+    // Cut 0, 1 or 2 that every point within the limits that meets the rule meets, where there is one. By number, since
+    // each is asked on the limits that the one before it left.
     fn proposed(&self, reading: &Reading, i: u8) -> Option<Cut>
         ensures { result ≡ model.proposed self.now reading.now i };
 
