@@ -4,7 +4,7 @@
 
 use digests::{Questions, all_answers, answers, place};
 use interface::cut::Cut;
-use interface::home::Home;
+use interface::home::{Home, Span};
 use interface::point::Point;
 use interface::shape::Shape;
 use intervals::interval_box::IntervalBox;
@@ -46,18 +46,17 @@ fn probe(home: &Home, asked: &Questions, p: u8, q: u8) -> u64 {
 }
 
 fn home_of(n: u8, a: i32, b: i32, c: i32, d: i32) -> Home {
-    Home {
-        n,
-        lows: [a, c, 7, 0, 0, 0, 0, 0],
-        highs: [b, d, 9, 0, 0, 0, 0, 0],
-    }
+    let mut spans = [Span::default(); 8];
+    spans[0] = Span { low: a, high: b };
+    spans[1] = Span { low: c, high: d };
+    spans[2] = Span { low: 7, high: 9 };
+    Home { n, spans }
 }
 
 // A line for each pair of the home's nodes and one node more, which is not on the line.
 fn report(rt: &HostRuntime, home: &Home, asked: &Questions, nodes: u8) -> io::Result<()> {
     let n = home.n;
-    let [a, c, ..] = home.lows;
-    let [b, d, ..] = home.highs;
+    let [Span { low: a, high: b }, Span { low: c, high: d }, ..] = home.spans;
     for p in 0..nodes {
         for q in 0..nodes {
             let digest = probe(home, asked, p, q);

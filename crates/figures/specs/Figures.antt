@@ -5,6 +5,7 @@ use Rattle.interface.specs.declared.fault.RecordFault.TheVariants.{Number}
 use Rattle.interface.specs.declared.home.Home.{Home}
 use Rattle.interface.specs.declared.reading.Reading.{Reading}
 use Rattle.interface.specs.CutBounds.{valid_cut}
+use Rattle.interface.specs.Homes.{zero_span}
 use Rattle.interface.specs.Nodes.{opp}
 use Rattle.interface.specs.Numbers.{half}
 use Rattle.interface.specs.Shapes.{built, reading_of}
@@ -23,10 +24,10 @@ use Rattle.rules.specs.Steps.{step_core}
 
 -- one setting from low to high, and two with a range each
 abbrev pub one : ℤ → ℤ → Home
-one low high = record { n = 1; lows = low ∷ replicate 7 (pos 0); highs = high ∷ replicate 7 (pos 0) }
+one low high = record { n = 1; spans = record { low = low; high = high } ∷ replicate 7 zero_span }
 
 abbrev pub two : ℤ → ℤ → ℤ → ℤ → Home
-two low high low' high' = record { n = 2; lows = low ∷ low' ∷ replicate 6 (pos 0); highs = high ∷ high' ∷ replicate 6 (pos 0) }
+two low high low' high' = record { n = 2; spans = record { low = low; high = high } ∷ record { low = low'; high = high' } ∷ replicate 6 zero_span }
 
 -- two settings from 0 to 10
 abbrev pub ten : Home

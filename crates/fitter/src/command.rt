@@ -1,6 +1,6 @@
 // The commands, and how their words are read.
 use super::words::{coefficient, node, number, setting};
-use interface::home::Home;
+use interface::home::{Home, Span};
 use rules::any::AnyRule;
 use rules::apart::ApartRule;
 use rules::pair::PairRule;
@@ -22,18 +22,18 @@ fn read_home(words: &[&str]) -> Option<Home> {
     }
     let mut home = Home {
         n: (words.len() / 2).min(9) as u8,
-        lows: [0; 8],
-        highs: [0; 8],
+        spans: [Span::default(); 8],
     };
     for (k, ends) in words.chunks_exact(2).enumerate() {
         let [low, high] = ends else {
             return None;
         };
-        let low = number(low)?;
-        let high = number(high)?;
+        let span = Span {
+            low: number(low)?,
+            high: number(high)?,
+        };
         if k < 8 {
-            home.lows[k] = low;
-            home.highs[k] = high;
+            home.spans[k] = span;
         }
     }
     Some(home)

@@ -10,7 +10,7 @@ ghost use Rattle.fitter.specs.Sessions.{world, Session};
 
 use super::store::Memory;
 use interface::fault::SolverFault;
-use interface::home::Home;
+use interface::home::{Home, Span};
 use interface::point::Point;
 use interface::shape::Shape;
 use octagon::matrix::Octagon;
@@ -28,8 +28,7 @@ impl Memory {
     pub(crate) fn new() -> Memory {
         let shape = Octagon::start(&Home {
             n: 1,
-            lows: [0; 8],
-            highs: [0; 8],
+            spans: [Span::default(); 8],
         });
         let point = Point {
             n: 1,

@@ -23,10 +23,11 @@ fn top_at(home: &Home, p: u8) -> i32
     requires { p < 16 }
     ensures { result ≡ top home.now p }
 {
+    let span = home.spans[p as usize / 2];
     if p % 2 == 0 {
-        home.highs[p as usize / 2]
+        span.high
     } else {
-        home.lows[p as usize / 2].wrapping_neg()
+        span.low.wrapping_neg()
     }
 }
 

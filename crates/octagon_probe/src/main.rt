@@ -4,7 +4,7 @@
 
 use digests::{Questions, all_answers, place};
 use interface::cut::Cut;
-use interface::home::Home;
+use interface::home::{Home, Span};
 use interface::node::opposite;
 use interface::point::Point;
 use interface::shape::Shape;
@@ -70,12 +70,13 @@ fn main(rt: HostRuntime) -> io::Result<()> {
         settings: 4,
         points: &points,
     };
+    let mut spans = [Span::default(); 8];
+    spans[0] = Span { low: -2, high: 2 };
+    spans[1] = Span { low: -3, high: 2 };
+    spans[2] = Span { low: -2, high: 3 };
+    spans[3] = Span { low: 7, high: 9 };
     for k in 0..3u8 {
-        let home = Home {
-            n: k + 1,
-            lows: [-2, -3, -2, 7, 0, 0, 0, 0],
-            highs: [2, 2, 3, 9, 0, 0, 0, 0],
-        };
+        let home = Home { n: k + 1, spans };
         report(&rt, &home, &asked, 2 * k)?;
     }
     Ok(())

@@ -4,7 +4,7 @@
 ghost use Rattle.std.specs.Prelude.{◌≡◌, ◌+◌, ◌<◌, ◌≤◌};
 
 use interface::cut::Cut;
-use interface::home::Home;
+use interface::home::{Home, Span};
 use interface::shape::Shape;
 use octagon::matrix::Octagon;
 use std::io;
@@ -24,13 +24,14 @@ fn draw(seed: &mut u64, below: u32) -> u32
 fn draw_home(seed: &mut u64) -> Home {
     let mut home = Home {
         n: 1 + draw(seed, 3) as u8,
-        lows: [0; 8],
-        highs: [0; 8],
+        spans: [Span::default(); 8],
     };
-    for (low, high) in home.lows.iter_mut().zip(&mut home.highs).take(3) {
-        let drawn = draw(seed, 9) as i32 - 4;
-        *low = drawn;
-        *high = drawn + draw(seed, 5) as i32;
+    for span in home.spans.iter_mut().take(3) {
+        let low = draw(seed, 9) as i32 - 4;
+        *span = Span {
+            low,
+            high: low + draw(seed, 5) as i32,
+        };
     }
     home
 }
@@ -103,8 +104,10 @@ fn main(rt: HostRuntime) -> io::Result<()> {
     }
     let home = Home {
         n: 8,
-        lows: [-1000; 8],
-        highs: [1000; 8],
+        spans: [Span {
+            low: -1000,
+            high: 1000,
+        }; 8],
     };
     let fresh = Octagon::start(&home);
     let mut o = fresh;

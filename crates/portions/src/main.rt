@@ -1,7 +1,7 @@
 // A search with the interval box in portions, on stack slices and lists of several sizes: each outcome, and what was handed out.
 #![tactic(auto)]
 
-use interface::home::Home;
+use interface::home::{Home, Span};
 use interface::point::Point;
 use interface::shape::Shape;
 use intervals::interval_box::IntervalBox;
@@ -15,11 +15,10 @@ use std::io;
 use sum_rule::sum::{SumRule, Term};
 
 fn home() -> Home {
-    Home {
-        n: 2,
-        lows: [0; 8],
-        highs: [9, 7, 0, 0, 0, 0, 0, 0],
-    }
+    let mut spans = [Span::default(); 8];
+    spans[0].high = 9;
+    spans[1].high = 7;
+    Home { n: 2, spans }
 }
 
 // The settings lie at least 3 apart, the first leaves 1 divided by 2, and 3 s0 - 2 s1 is at most 12.

@@ -6,11 +6,12 @@ use Rattle.std.specs.List.{range_with_len, flat_map}
 use Rattle.interface.specs.declared.home.Home.{Home}
 use Rattle.interface.specs.declared.point.Point.{Point}
 use Rattle.interface.specs.declared.reading.Reading.{Reading}
+use Rattle.interface.specs.Homes.{eight_spans}
 use Rattle.interface.specs.Nodes.{opp}
 use Rattle.interface.specs.Numbers.{half}
 use Rattle.interface.specs.Readings.{limit_at, low_in, high_in}
 use Rattle.wire.specs.Bytes.{be}
-use Rattle.wire.specs.HomeFrame.{eight, write_home}
+use Rattle.wire.specs.HomeFrame.{write_home}
 
 -- the four bytes of a number by two's complement, the highest first
 abbrev pub word : ℤ → List ℕ
@@ -26,7 +27,7 @@ point_frame x = 16 ∷ x.n ∷ flat_map word (point_values x)
 
 -- the ranges as a home; 0 past the settings
 abbrev pub ranges_of : Reading → Home
-ranges_of g = record { n = g.n; lows = eight g.n (low_in g); highs = eight g.n (high_in g) }
+ranges_of g = record { n = g.n; spans = eight_spans g.n (low_in g) (high_in g) }
 
 abbrev pub ranges_frame : Reading → List ℕ
 ranges_frame g = write_home (ranges_of g)

@@ -1,24 +1,27 @@
 // The line of a region's ranges: a home frame, made from the limits.
 ghost use Rattle.std.specs.Prelude.{◌≡◌, [], ◌∷◌};
+ghost use Rattle.interface.specs.Homes.{span_or_0};
 ghost use Rattle.interface.specs.Readings.{low_in, high_in};
 ghost use Rattle.wire.specs.Appending.{Appends};
-ghost use Rattle.wire.specs.HomeFrame.{first_or_0};
 ghost use Rattle.report_lines.specs.RegionFrames.{ranges_of, ranges_frame};
 
-use interface::home::Home;
+use interface::home::{Home, Span};
 use interface::reading::Reading;
 use std::array;
 use wire::frame::Frame;
 use wire::output::Output;
 
 // The least and the greatest value of a setting, 0 for one past the settings.
-fn range(reading: &Reading, k: u8) -> (i32, i32)
-    ensures { result ≡ (first_or_0 reading.now.n (low_in reading.now) k, first_or_0 reading.now.n (high_in reading.now) k) }
+fn range(reading: &Reading, k: u8) -> Span
+    ensures { result ≡ span_or_0 reading.now.n (low_in reading.now) (high_in reading.now) k }
 {
     if k < reading.n {
-        (reading.low(k), reading.high(k))
+        Span {
+            low: reading.low(k),
+            high: reading.high(k),
+        }
     } else {
-        (0, 0)
+        Span::default()
     }
 }
 
@@ -27,8 +30,7 @@ fn ranges(reading: &Reading) -> Home
 {
     Home {
         n: reading.n,
-        lows: array::from_fn(|k| range(reading, k as u8).0),
-        highs: array::from_fn(|k| range(reading, k as u8).1),
+        spans: array::from_fn(|k| range(reading, k as u8)),
     }
 }
 
