@@ -60,6 +60,7 @@ impl Octagon {
         }
     }
 
+    // As a reading's limit, on the octagon's own array: to make a reading first would copy all of it.
     pub(crate) fn limit_of(&self, p: u8, q: u8) -> i32
         ensures { result ≡ limit_at self.now p q }
     {

@@ -46,6 +46,7 @@ impl Octagon {
         -half_of(self.limit_of(2 * k + 1, 2 * k + 1))
     }
 
+    // This and `widths` stand in the interval box too: a trait for both would state the ranges and their bounds again.
     fn width(&self, k: u8) -> u32
         requires { k < 8 }
         ensures { result ≡ width_at (at self.now.limits) k }

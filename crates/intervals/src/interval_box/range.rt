@@ -64,6 +64,7 @@ impl IntervalBox {
         ensures { result ≡ every (λ k. in_range self.now k (slice_index_or (values_of point.now) k (pos 0))) self.now.n }
     {
         (0..self.n).all(|k| {
+            // two comparisons: a range would be made for one test
             let z = point.setting(k);
             self.low(k) <= z && z <= self.high(k)
         })
