@@ -58,6 +58,7 @@ fn tell_region(rt: &HostRuntime, region: &Region<Octagon>) -> io::Result<()> {
     println!(rt; "")
 }
 
+// In words, for the fitter: the enum is another crate's, so no Display of it can stand here.
 fn outcome_words(outcome: Outcome) -> &'static str {
     match outcome {
         Outcome::Done => "done",

@@ -28,7 +28,7 @@ fn above_middle(m: i32) -> i32
 }
 
 impl Octagon {
-    // The greatest value of setting k.
+    // The greatest value of setting k. That k is below 8 each of the four asks: a type for it would be made at each call.
     fn high(&self, k: u8) -> i32
         requires { k < 8 }
         ensures value { result ≡ high_at (at self.now.limits) k }
