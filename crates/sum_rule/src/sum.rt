@@ -28,9 +28,9 @@ pub struct SumRule {
     pub t: i32,
 }
 
-#[tactic(auto, unfolding(crate::specs::Sums::times), using(crate::proofs::Products::product_small))]
 // Each amount says its bound, so that three of them add up in 64 bits; a type with the bound in it would be taken apart
 // at each sum.
+#[tactic(auto, unfolding(crate::specs::Sums::times), using(crate::proofs::Products::product_small))]
 fn product(k: i8, z: i32) -> i64
     ensures value { result ≡ times k z }
     ensures bound { unsigned_abs result ≤ 2 ^ 38 }
