@@ -31,7 +31,15 @@ impl<'a> Output<'a> {
         Output { bytes, at: 0 }
     }
 
-    // The place that the next line goes to: so many bytes are written.
+    // The next line goes to this place.
+    pub fn from_place(bytes: &'a mut [u8], at: usize) -> Output<'a>
+        ensures same_bytes { result.bytes.ghost_name ≡ bytes.entry.ghost_name }
+        ensures start { lines_in result ≡ lines bytes.old at }
+    {
+        Output { bytes, at }
+    }
+
+    // The place that the next line goes to, just behind the last.
     pub fn place(&self) -> usize
         ensures { result ≡ (lines_in self.now).place }
     {
