@@ -146,10 +146,10 @@ limits_tell_apart s t m k n e same =
     voids : (v w a b : Bool) → cond v Void (cond a Lone Open) ≡ cond w Void (cond b Lone Open) → v ≡ w
     voids true true a b f = refl
     voids false false a b f = refl
-    voids true false a true f = absurd (let z : ◌≡◌ {A = ℕ} 0 1 = cc in omega arith)
-    voids true false a false f = absurd (let z : ◌≡◌ {A = ℕ} 0 1 = cc in omega arith)
-    voids false true true b f = absurd (let z : ◌≡◌ {A = ℕ} 0 1 = cc in omega arith)
-    voids false true false b f = absurd (let z : ◌≡◌ {A = ℕ} 0 1 = cc in omega arith)
+    voids true false a true f = cc
+    voids true false a false f = cc
+    voids false true true b f = cc
+    voids false true false b f = cc
 
     read : (u : Octagon) (p q : ℕ) → p < 16 → q < 16 → limit_at u p q ≡ at u.limits p q
     read u p q a b = cond-true _ _ (pos 0) (and_from (ltb p 16) (ltb q 16) (lt-ltb p 16 a) (lt-ltb q 16 b))

@@ -36,9 +36,6 @@ narrow_is z (Err e) h = narrow_err z h
 abbrev pub SoFar : (ℕ → ℕ → ℤ) → ℕ → ℕ → List ℤ → Type 0
 SoFar L m k xs = (length xs ≡ 8) × (take k xs ++ least_from L (take k xs) (m - k) ≡ least_from L [] m) × (drop k xs ≡ replicate (8 - k) (pos 0))
 
-pub so_far_none : (L : ℕ → ℕ → ℤ) (m : ℕ) → SoFar L m 0 (replicate 8 (pos 0))
-so_far_none L m = (refl, ap (least_from L []) (let e : m - 0 ≡ m = omega arith in e), refl)
-
 pub so_far_more : (L : ℕ → ℕ → ℤ) (m k : ℕ) (xs : List ℤ) (v : ℤ) → k < m → m ≤ 8 → v ≡ narrow (next_value L (take k xs)) → SoFar L m k xs → SoFar L m (k + 1) (slice_set xs k v)
 unfolding least_from
 so_far_more L m k xs v h b e s =
