@@ -31,9 +31,6 @@ module _ {S R : Type 0} (M : ShapeModel S) (K : RuleModel R) where
   pub cuts_more : (r : R) (i : ℕ) → i < 3 → (s t : S) → t ≡ tighten M K r i s → by_cuts M K r (range_with_len i (3 - i)) s ≡ by_cuts M K r (range_with_len (i + 1) (3 - (i + 1))) t
   cuts_more r i h s t e = ap (λ is. by_cuts M K r is s) (counting_more i 3 h) ∙ ap (by_cuts M K r (range_with_len (i + 1) (3 - (i + 1)))) (sym e)
 
-  pub cuts_end : (r : R) (i : ℕ) → 3 ≤ i → (s : S) → by_cuts M K r (range_with_len i (3 - i)) s ≡ s
-  cuts_end r i h s = let e : 3 - i ≡ 0 = omega arith in ap (λ n. by_cuts M K r (range_with_len i n) s) e
-
   pub rules_more : (rs : List R) (j : ℕ) (r : R) → j < length rs → r ≡ get_or rs j r → (s t : S) → t ≡ by_cuts M K r (range_with_len 0 3) s → by_rules M K (drop j rs) s ≡ by_rules M K (drop (j + 1) rs) t
   rules_more rs j r h e s t f = at_drop_more (λ qs. by_rules M K qs s) rs j r h ∙ ap (λ q. by_rules M K (q ∷ drop (j + 1) rs) s) (sym e) ∙ ap (by_rules M K (drop (j + 1) rs)) (sym f)
 
