@@ -1,5 +1,5 @@
 // One guard for every rule: a record that fails its check answers by that alone, any other as its core does.
-ghost use Rattle.std.specs.Prelude.{◌≡◌};
+ghost use Rattle.std.specs.Prelude.{◌≡◌, [], ◌∷◌};
 ghost use Rattle.interface.specs.Grounds.{first_fault};
 ghost use Rattle.interface.specs.Guards.{CoreModel, CoreLaws, guarded};
 ghost use Rattle.interface.specs.GuardsLemmas.{guarded_laws};
@@ -12,16 +12,11 @@ use super::reading::Reading;
 use super::rule::Rule;
 use super::verdict::Verdict;
 
-// Accepted, or refused with the fault of the first ground whose condition holds.
-pub fn first_fault<F: Copy>(grounds: &[(bool, F)]) -> Result<(), F>
-    ensures { result ≡ first_fault grounds.now }
+// Refused with the fault where its ground holds.
+pub fn refuse<F: Copy>(ground: bool, fault: F) -> Result<(), F>
+    ensures { result ≡ first_fault ((ground, fault) ∷ []) }
 {
-    for ground in grounds {
-        if ground.0 {
-            return Err(ground.1);
-        }
-    }
-    Ok(())
+    if ground { Err(fault) } else { Ok(()) }
 }
 
 // The core of a rule: its grounds for a refusal, and its answers on a record that they accept.

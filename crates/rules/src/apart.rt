@@ -6,7 +6,7 @@ ghost use Rattle.rules.specs.ApartsLemmas.{apart_core_laws, apart_trips};
 
 use interface::cut::Cut;
 use interface::fault::RecordFault;
-use interface::guard::{Core, first_fault};
+use interface::guard::{Core, refuse};
 use interface::point::Point;
 use interface::reading::Reading;
 use rule_base::bounds::{cut_at, gap, negative};
@@ -60,12 +60,10 @@ impl Core for ApartRule {
     ghost laws = { apart_core_laws };
 
     fn check_grounds(&self, n: u8) -> Result<(), RecordFault> {
-        first_fault(&[
-            (self.a >= n, RecordFault::Node(2)),
-            (self.b >= n, RecordFault::Node(3)),
-            (self.b == self.a, RecordFault::Clash(3)),
-            (!(1..=2_000_000).contains(&self.d), RecordFault::Number(4)),
-        ])
+        refuse(self.a >= n, RecordFault::Node(2))?;
+        refuse(self.b >= n, RecordFault::Node(3))?;
+        refuse(self.b == self.a, RecordFault::Clash(3))?;
+        refuse(!(1..=2_000_000).contains(&self.d), RecordFault::Number(4))
     }
 
     fn met_by(&self, point: &Point) -> bool {

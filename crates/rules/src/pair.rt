@@ -6,7 +6,7 @@ ghost use Rattle.rules.specs.PairsLemmas.{pair_core_laws, pair_trips};
 
 use interface::cut::Cut;
 use interface::fault::RecordFault;
-use interface::guard::{Core, first_fault};
+use interface::guard::{Core, refuse};
 use interface::node::opposite;
 use interface::point::Point;
 use interface::reading::Reading;
@@ -29,15 +29,13 @@ impl Core for PairRule {
     ghost laws = { pair_core_laws };
 
     fn check_grounds(&self, n: u8) -> Result<(), RecordFault> {
-        first_fault(&[
-            (self.p / 2 >= n, RecordFault::Node(2)),
-            (self.q / 2 >= n, RecordFault::Node(3)),
-            (self.q == opposite(self.p), RecordFault::Clash(3)),
-            (
-                !(-2_000_000..=2_000_000).contains(&self.c),
-                RecordFault::Number(4),
-            ),
-        ])
+        refuse(self.p / 2 >= n, RecordFault::Node(2))?;
+        refuse(self.q / 2 >= n, RecordFault::Node(3))?;
+        refuse(self.q == opposite(self.p), RecordFault::Clash(3))?;
+        refuse(
+            !(-2_000_000..=2_000_000).contains(&self.c),
+            RecordFault::Number(4),
+        )
     }
 
     fn met_by(&self, point: &Point) -> bool {

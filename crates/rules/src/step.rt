@@ -6,7 +6,7 @@ ghost use Rattle.rules.specs.StepsLemmas.{step_core_laws, step_trips};
 
 use interface::cut::Cut;
 use interface::fault::RecordFault;
-use interface::guard::{Core, first_fault};
+use interface::guard::{Core, refuse};
 use interface::point::Point;
 use interface::reading::Reading;
 use rule_base::bounds::{bounded_by, gap};
@@ -87,11 +87,9 @@ impl Core for StepRule {
     ghost laws = { step_core_laws };
 
     fn check_grounds(&self, n: u8) -> Result<(), RecordFault> {
-        first_fault(&[
-            (self.a >= n, RecordFault::Node(2)),
-            (!(2..=1_000_000).contains(&self.m), RecordFault::Number(3)),
-            (!(0..self.m).contains(&self.r), RecordFault::Number(7)),
-        ])
+        refuse(self.a >= n, RecordFault::Node(2))?;
+        refuse(!(2..=1_000_000).contains(&self.m), RecordFault::Number(3))?;
+        refuse(!(0..self.m).contains(&self.r), RecordFault::Number(7))
     }
 
     fn met_by(&self, point: &Point) -> bool {

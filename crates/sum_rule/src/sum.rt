@@ -7,7 +7,7 @@ ghost use Rattle.sum_rule.specs.SumsLemmas.{sum_core_laws};
 
 use interface::cut::Cut;
 use interface::fault::RecordFault;
-use interface::guard::{Core, first_fault};
+use interface::guard::{Core, refuse};
 use interface::point::Point;
 use interface::reading::Reading;
 use rule_base::bounds::bounded_by;
@@ -150,25 +150,21 @@ impl Core for SumRule {
     ghost laws = { sum_core_laws };
 
     fn check_grounds(&self, n: u8) -> Result<(), RecordFault> {
-        first_fault(&[
-            (self.first.setting >= n, RecordFault::Node(2)),
-            (self.second.setting >= n, RecordFault::Node(4)),
-            (self.third.setting >= n, RecordFault::Node(6)),
-            (self.first.clashes(&self.second), RecordFault::Clash(4)),
-            (self.first.clashes(&self.third), RecordFault::Clash(6)),
-            (self.second.clashes(&self.third), RecordFault::Clash(6)),
-            (self.first.is_wrong(), RecordFault::Number(3)),
-            (self.second.is_wrong(), RecordFault::Number(5)),
-            (self.third.is_wrong(), RecordFault::Number(7)),
-            (
-                !(-300_000_000..=300_000_000).contains(&self.t),
-                RecordFault::Number(8),
-            ),
-            (
-                self.first.is_empty() && self.second.is_empty() && self.third.is_empty(),
-                RecordFault::Empty(1),
-            ),
-        ])
+        refuse(self.first.setting >= n, RecordFault::Node(2))?;
+        refuse(self.second.setting >= n, RecordFault::Node(4))?;
+        refuse(self.third.setting >= n, RecordFault::Node(6))?;
+        refuse(self.first.clashes(&self.second), RecordFault::Clash(4))?;
+        refuse(self.first.clashes(&self.third), RecordFault::Clash(6))?;
+        refuse(self.second.clashes(&self.third), RecordFault::Clash(6))?;
+        refuse(self.first.is_wrong(), RecordFault::Number(3))?;
+        refuse(self.second.is_wrong(), RecordFault::Number(5))?;
+        refuse(self.third.is_wrong(), RecordFault::Number(7))?;
+        refuse(
+            !(-300_000_000..=300_000_000).contains(&self.t),
+            RecordFault::Number(8),
+        )?;
+        let empty = self.first.is_empty() && self.second.is_empty() && self.third.is_empty();
+        refuse(empty, RecordFault::Empty(1))
     }
 
     fn met_by(&self, point: &Point) -> bool {
