@@ -6,7 +6,7 @@ ghost use Rattle.interface.specs.Homes.{home_check, range_grounds, crossed_groun
 ghost use Rattle.interface.specs.Numbers.{within};
 
 use super::fault::RecordFault;
-use super::guard::first_fault;
+use super::guard::refuse;
 
 // From where to where a setting may go.
 #[derive(Clone, Copy, Debug, Default, PartialEq, Eq)]
@@ -36,9 +36,7 @@ impl Home {
     pub fn check(&self) -> Result<(), RecordFault>
         ensures { result ≡ home_check self.now }
     {
-        if !(1..=8).contains(&self.n) {
-            return Err(RecordFault::Settings(2));
-        }
+        refuse(!(1..=8).contains(&self.n), RecordFault::Settings(2))?;
         self.check_ranges()?;
         self.check_order()
     }
@@ -48,10 +46,8 @@ impl Home {
         ensures { result ≡ first_fault (range_grounds self.now k) }
     {
         let span = self.spans[k as usize];
-        first_fault(&[
-            (!in_range(span.low), RecordFault::Range(3 + 8 * k as u16)),
-            (!in_range(span.high), RecordFault::Range(7 + 8 * k as u16)),
-        ])
+        refuse(!in_range(span.low), RecordFault::Range(3 + 8 * k as u16))?;
+        refuse(!in_range(span.high), RecordFault::Range(7 + 8 * k as u16))
     }
 
     fn check_crossed(&self, k: u8) -> Result<(), RecordFault>
@@ -59,7 +55,7 @@ impl Home {
         ensures { result ≡ first_fault (crossed_grounds self.now k) }
     {
         let span = self.spans[k as usize];
-        first_fault(&[(span.high < span.low, RecordFault::Crossed(7 + 8 * k as u16))])
+        refuse(span.high < span.low, RecordFault::Crossed(7 + 8 * k as u16))
     }
 
     fn check_ranges(&self) -> Result<(), RecordFault>
