@@ -2,7 +2,7 @@
 ghost use Rattle.std.specs.Prelude.{◌≡◌};
 ghost use Rattle.interface.specs.Readings.{limit_at, low_in, high_in};
 
-// The limit at nodes p and q stands at 16 p + q.
+// The limit at nodes p and q stands at 16 p + q; all 256 are there whatever n is.
 #[derive(Clone, Copy, PartialEq, Eq)]
 pub struct Reading {
     pub n: u8,

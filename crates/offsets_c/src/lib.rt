@@ -1,4 +1,5 @@
-// The entry point as C calls it: the library's, with its clauses, in a static library.
+// The entry point as C calls it: the library's, with its clauses. A crate of its own, since an export stands in a static
+// library, and Rattle code calls a library.
 #![tactic(auto)]
 
 ghost use Rattle.std.specs.Prelude.{◌≡◌, ◌≤◌, length};

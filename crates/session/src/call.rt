@@ -16,7 +16,8 @@ use search::solver::Solver;
 use search_theory::reply::Reply;
 use search_theory::request::Request;
 
-// A session just opened, with no rule; refused with the home's own fault.
+// A session just opened, with no rule; refused with the home's own fault. `Solver::open` at the octagon: the one place
+// where the shape is picked.
 pub fn open(home: &Home) -> Result<Solver<Octagon>, SolverFault>
     ensures { view_if_any result ≡ open_call octagon_model home.now }
 {
