@@ -9,7 +9,7 @@ use Rattle.interface.specs.Nodes.{value}
 use Rattle.interface.specs.Points.{values_of}
 use Rattle.octagon.specs.Entries.{at}
 use Rattle.octagon.specs.Octagons.{narrow}
-use Rattle.octagon.specs.Offering.{bounds_all, narrow_is}
+use Rattle.octagon.specs.Offering.{bounds_whole, narrow_is}
 use Rattle.octagon.specs.Ranges.{low_at}
 use Rattle.octagon.proofs.matrix.Octagon.next_value.Goals as goal
 
@@ -25,4 +25,4 @@ returns c =
     let fits : SFits w32 c.unwrap_or.result = search rules in
     let wide : SFits w64 c.fold.result = search rules in
     let narrowed : c.unwrap_or.result ≡ narrow c.fold.result = c.unwrap_or.ensures ∙ narrow_is c.fold.result c.try_from.result (simp to_z-of_z at c.try_from.ensures) in
-    simp to_z-of_z (narrowed ∙ ap narrow (greatest ∙ bounds_all L x k (omega (arith, length-take k c.args.point.now.values))))
+    simp to_z-of_z (narrowed ∙ ap narrow (greatest ∙ bounds_whole L x k (omega (arith, length-take k c.args.point.now.values))))
