@@ -115,6 +115,7 @@ impl Shape for IntervalBox {
         (self.at_most(k, m), self.at_least(k, m + 1))
     }
 
+    // As in the octagon: a trait for both would state the flag and the widths again.
     fn extent(&self) -> Extent
         ensures { result ≡ extent_box self.now }
     {
