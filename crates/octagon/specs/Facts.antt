@@ -32,15 +32,24 @@ use Rattle.octagon.specs.Widths.{length_widths, getD_widths, single_says, open_s
 use Rattle.octagon.specs.Splitting.{Wide, wide, lower_fewer, upper_fewer, meets_lower, lower_met, meets_upper, upper_met, widths_are, open_is, lower_split, upper_split, lower_octagon, upper_octagon}
 
 -- which extent tells what
+void_not : Void ≢ Lone
+void_not e = cc
+
+void_not_open : Void ≢ Open
+void_not_open e = cc
+
+lone_not_open : Lone ≢ Open
+lone_not_open e = cc
+
 extent_void : (v a : Bool) → cond v Void (cond a Lone Open) ≡ Void → v ≡ true
 extent_void true a e = refl
 extent_void false true e = cc
 extent_void false false e = cc
 
 extent_lone : (v a : Bool) → cond v Void (cond a Lone Open) ≡ Lone → (v ≡ false) × (a ≡ true)
-extent_lone true a e = absurd (cc)
+extent_lone true a e = absurd cc
 extent_lone false true e = (refl, refl)
-extent_lone false false e = absurd (cc)
+extent_lone false false e = absurd cc
 
 extent_open : (v a : Bool) → cond v Void (cond a Lone Open) ≡ Open → (not v && not a) ≡ true
 extent_open true a e = cc

@@ -141,7 +141,7 @@ module _ (h : Home) (ts : List Cut) (s : Octagon) (O : OctagonOf h ts s) where
   offer_says x e = by s.void refl e
     where
       by : (b : Bool) → s.void ≡ b → cond b None (Some (record { n = s.n; values = offered s.limits (min 8 s.n) })) ≡ Some x → (void h ts ≡ false) × (values_of x ≡ least_values (limit h ts) [] h.n)
-      by true f g = let z : ◌≡◌ {A = ℕ} 0 1 = cc in absurd (omega arith)
+      by true f g = cc
       by false f g =
           let v : void h ts ≡ false = sym O.same_void ∙ f in
           let same : record { n = s.n; values = offered s.limits (min 8 s.n) } ≡ x = cc in

@@ -36,8 +36,8 @@ fn row(limits: &[i32; 256], p: usize) -> [i32; 16]
     array::from_fn(|q| limits[16 * p + q])
 }
 
-// The shorter way from i over the cut that ends at b: by a, or by b and once more over the cut. The limits, a, b and c are
-// what a `Crossing` is made of; nothing takes them once it is made.
+// The shorter way from i over the cut that ends at b: by a, or by b and once more over the cut. Only a `Crossing` is made of
+// the limits, a, b and c together, and its methods take no more than the limits.
 fn way(limits: &[i32; 256], a: usize, b: usize, c: i32, i: usize) -> i32
     requires { (a < 16) × (b < 16) × (i < 16) }
     ensures { result ≡ way limits.now a b c i }

@@ -10,6 +10,7 @@ use std::array;
 
 // The limit (p, q) stands at 16 p + q: 0 where a node is 2n or above, for opposite nodes, and on a void octagon.
 // `void` stands beside them, and they are no Option: a void octagon answers 0 for each limit, as any octagon off its line.
+// `n` stands beside an array: octagons are copied into lent slices, and an ArrayVec is not Copy.
 #[derive(Clone, Copy)]
 pub struct Octagon {
     pub(crate) n: u8,
@@ -71,7 +72,8 @@ impl Octagon {
         }
     }
 
-    // Whether the cut takes nothing away.
+    // Whether the cut takes nothing away. This, `is_unmet`, `cut_by` and `with_cut` take p, q and c and not a `Cut`: a part's
+    // cut is made of a setting and a bound, and `Cut::new` would answer an Option.
     fn is_idle(&self, p: u8, q: u8, c: i32) -> bool
         ensures { result ≡ idle self.now p q c }
     {

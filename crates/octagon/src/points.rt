@@ -15,7 +15,7 @@ impl Octagon {
         requires { (p < 16) × (q < 16) }
         ensures { result ≡ int_le (value (values_of point.now) p +ℤ value (values_of point.now) q) (at self.now.limits p q) }
     {
-        point.at(p) + point.at(q) <= self.limit_of(p, q) as i64
+        point.at(p) + point.at(q) <= i64::from(self.limit_of(p, q))
     }
 
     // Whether the point keeps the limits of row p.
@@ -34,7 +34,8 @@ impl Octagon {
         (0..2 * self.n).all(|p| self.is_row_under(point, p))
     }
 
-    // `min` and not `settings`: to read the point itself shows that it has eight places.
+    // Whether the octagon holds the point. `point.n.min(8)` stands for `point.settings()`: the proof needs that the array has
+    // eight places, which a read of a field of the point tells, and the contract of `settings` does not.
     pub(crate) fn holds_point(&self, point: &Point) -> bool
         ensures { result ≡ holds_at self.now (values_of point.now) }
     {
@@ -46,7 +47,7 @@ impl Octagon {
         requires { (point.now.n < 8) × (p < 16) }
         ensures { result ≡ (value (values_of point.now) p -ℤ at self.now.limits p (2 * point.now.n + 1)) }
     {
-        point.at(p) - self.limit_of(p, 2 * point.n + 1) as i64
+        point.at(p) - i64::from(self.limit_of(p, 2 * point.n + 1))
     }
 
     // The least value of the next setting, after those of the point: the greatest of its lower bounds.
@@ -55,7 +56,7 @@ impl Octagon {
         ensures { result ≡ narrow (next_value (at self.now.limits) (values_of point.now)) }
     {
         let bounds = (0..2 * point.n).map(|p| self.bound_by(point, p));
-        i32::try_from(bounds.fold(self.low(point.n) as i64, i64::max)).unwrap_or(0)
+        i32::try_from(bounds.fold(i64::from(self.low(point.n)), i64::max)).unwrap_or(0)
     }
 
     // The least values of the first m settings, and 0 past them.

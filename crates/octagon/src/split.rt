@@ -11,6 +11,9 @@ use halving::{halvings, single, widest};
 use interface::extent::Extent;
 use std::array;
 
+// That a value is within 2^30 of 0 five contracts here say, each with its own ends, since half a limit of 32 bits is: a type
+// for such values would be made and taken apart at each call.
+
 // The bound of the cut to values up to m.
 fn below_middle(m: i32) -> i32
     requires { (neg_ℤ (pos 1073741824) ≤ℤ m) × (m ≤ℤ pos 1073741823) }
@@ -82,6 +85,7 @@ impl Octagon {
         widest(&self.widths()) as u8
     }
 
+    // As in the interval box: a trait for both would state the flag and the widths again.
     pub(crate) fn extent_of(&self) -> Extent
         ensures { result ≡ extent_by self.now.void (at self.now.limits) }
     {

@@ -42,19 +42,19 @@ impl IntervalBox {
         }
     }
 
-    // A bound from above and one from below are each a call of `narrowed`; one function for both would need a flag.
-    // Without the values of setting k above b.
+    // Without the values of setting k above b. The twin `at_least` is the same call of `narrowed` on the other side: one
+    // function for both would need a flag.
     pub(crate) fn at_most(&self, k: u8, b: i64) -> IntervalBox
         ensures { result ≡ at_most self.now k b }
     {
-        self.narrowed(k, self.low(k) as i64, b.min(self.high(k) as i64))
+        self.narrowed(k, i64::from(self.low(k)), b.min(i64::from(self.high(k))))
     }
 
     // Without the values of setting k below b.
     pub(crate) fn at_least(&self, k: u8, b: i64) -> IntervalBox
         ensures { result ≡ at_least self.now k b }
     {
-        self.narrowed(k, b.max(self.low(k) as i64), self.high(k) as i64)
+        self.narrowed(k, b.max(i64::from(self.low(k))), i64::from(self.high(k)))
     }
 
     // With v(p) at most b: an odd node bounds its setting from below.

@@ -37,9 +37,9 @@ impl IntervalBox {
         ensures high_bound { result ≤ℤ pos (2 ^ 31) }
     {
         if p % 2 == 0 {
-            self.low(p / 2) as i64
+            i64::from(self.low(p / 2))
         } else {
-            -(self.high(p / 2) as i64)
+            -i64::from(self.high(p / 2))
         }
     }
 
@@ -59,15 +59,18 @@ impl IntervalBox {
         (p as u16) < 2 * self.n as u16
     }
 
+    // Whether z lies in the range of setting k.
+    fn is_in_range(&self, k: u8, z: i32) -> bool
+        ensures { result ≡ in_range self.now k z }
+    {
+        (self.low(k)..=self.high(k)).contains(&z)
+    }
+
     // Whether each value of the point lies in its range.
     pub(crate) fn inside(&self, point: &Point) -> bool
         ensures { result ≡ every (λ k. in_range self.now k (slice_index_or (values_of point.now) k (pos 0))) self.now.n }
     {
-        (0..self.n).all(|k| {
-            // two comparisons: a range would be made for one test
-            let z = point.setting(k);
-            self.low(k) <= z && z <= self.high(k)
-        })
+        (0..self.n).all(|k| self.is_in_range(k, point.setting(k)))
     }
 
     // The width of setting k's range.

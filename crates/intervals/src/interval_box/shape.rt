@@ -41,15 +41,15 @@ impl IntervalBox {
         ensures low_bound { neg_ℤ (pos (2 ^ 32)) ≤ℤ result }
         ensures high_bound { result ≤ℤ pos (2 ^ 32) }
     {
-        (self.low(k) as i64 + self.high(k) as i64).div_euclid(2)
+        (i64::from(self.low(k)) + i64::from(self.high(k))).div_euclid(2)
     }
 
     // With each of v(p) and v(q) at most c less the least of the other, as it was before.
     fn bounded_both(&self, p: u8, q: u8, c: i32) -> IntervalBox
         ensures { result ≡ bounded (bounded self.now p (c -ℤ least self.now q)) q (c -ℤ least self.now p) }
     {
-        let most_p = c as i64 - self.least(q);
-        let most_q = c as i64 - self.least(p);
+        let most_p = i64::from(c) - self.least(q);
+        let most_q = i64::from(c) - self.least(p);
         self.bounded(p, most_p).bounded(q, most_q)
     }
 
@@ -63,7 +63,7 @@ impl IntervalBox {
         if !(self.on_line(p) && self.on_line(q)) {
             *self
         } else if p == q {
-            self.bounded(p, c.div_euclid(2) as i64)
+            self.bounded(p, i64::from(c.div_euclid(2)))
         } else {
             self.bounded_both(p, q, c)
         }
@@ -115,6 +115,7 @@ impl Shape for IntervalBox {
         (self.at_most(k, m), self.at_least(k, m + 1))
     }
 
+    // As in the octagon: a trait for both would state the flag and the widths again.
     fn extent(&self) -> Extent
         ensures { result ≡ extent_box self.now }
     {
