@@ -44,7 +44,8 @@ pub trait Core: Copy {
     fn standing_cut(&self) -> Option<Cut>
         ensures { result ≡ core.standing self.now };
 
-    // Cut 0, 1 or 2 that every point within the limits that meets the rule meets, where there is one.
+    // Cut 0, 1 or 2 that every point within the limits that meets the rule meets, where there is one. By number, since
+    // each is asked on the limits that the one before it left.
     fn proposed_cut(&self, reading: &Reading, i: u8) -> Option<Cut>
         ensures { result ≡ core.proposed self.now reading.now i };
 

@@ -8,6 +8,11 @@ abbrev pub either : {A B C : Type 0} → (A → C) → (B → C) → Joined A B 
 either f g (First a) = f a
 either f g (Second b) = g b
 
+-- a first, of which P holds
+abbrev pub IsFirst : {A B : Type 0} → (A → Type 0) → Joined A B → Type 0
+IsFirst P (First a) = P a
+IsFirst P (Second b) = ⊥
+
 -- every answer is that of the rule inside
 abbrev pub joined : {A B : Type 0} → RuleModel A → RuleModel B → RuleModel (Joined A B)
 joined K M = record {

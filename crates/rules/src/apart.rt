@@ -84,6 +84,7 @@ impl Core for ApartRule {
         None
     }
 
+    // By number: each cut is asked on the limits that the one before it left.
     fn proposed_cut(&self, reading: &Reading, i: u8) -> Option<Cut> {
         if i == 0 { self.cut(reading) } else { None }
     }

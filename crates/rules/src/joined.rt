@@ -1,5 +1,5 @@
 // A rule of either of two: it answers as that rule does.
-ghost use Rattle.rules.specs.Joins.{joined};
+ghost use Rattle.rules.specs.Joins.{IsFirst, joined};
 ghost use Rattle.rules.specs.JoinsLemmas.{joined_laws};
 
 use interface::cut::Cut;
@@ -15,7 +15,10 @@ pub enum Joined<A, B> {
     Second(B),
 }
 
+// First of the default of A.
 impl<A: Default, B> Default for Joined<A, B> {
+    ghost is_default = { IsFirst A.is_default };
+
     fn default() -> Joined<A, B> {
         Joined::First(A::default())
     }

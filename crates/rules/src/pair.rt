@@ -56,6 +56,7 @@ impl Core for PairRule {
         cut_at(u16::from(self.p), u16::from(self.q), i64::from(self.c))
     }
 
+    // By number: each cut is asked on the limits that the one before it left.
     fn proposed_cut(&self, reading: &Reading, i: u8) -> Option<Cut> {
         if i == 0 { self.standing_cut() } else { None }
     }

@@ -50,12 +50,14 @@ impl StepRule {
         remainder(self.m, gap(x, y))
     }
 
+    // Apart from `greatest_up_to`, whose law is proved from this equation.
     fn last_up_to(&self, z: i32) -> i64
         ensures { result ≡ last_up_to self.now z }
     {
         i64::from(z) - self.rest_of(z, self.r)
     }
 
+    // Apart from `least_from`, whose law is proved from this equation and this bound.
     fn first_from(&self, z: i32) -> i64
         ensures value { result ≡ first_from self.now z }
         ensures bound { unsigned_abs result ≤ 2 ^ 33 }
@@ -109,6 +111,7 @@ impl Core for StepRule {
         None
     }
 
+    // By number: each cut is asked on the limits that the one before it left.
     #[tactic(auto, using(crate::proofs::Negatives::negative_back))]
     fn proposed_cut(&self, reading: &Reading, i: u8) -> Option<Cut> {
         let node = 2 * u16::from(self.a);

@@ -183,6 +183,7 @@ impl Core for SumRule {
         None
     }
 
+    // By number: each cut is asked on the limits that the one before it left.
     fn proposed_cut(&self, reading: &Reading, i: u8) -> Option<Cut> {
         match i {
             0 => self.term_cut(reading, &self.first, &self.second, &self.third),
