@@ -1,4 +1,4 @@
-// Frames of numbers: a code, how many settings there are, then the numbers, four bytes each.
+// Frames of numbers: a code, a byte (how many settings there are, or which one), then the numbers, four bytes each.
 ghost use Rattle.std.specs.Prelude.{◌≡◌, ◌<◌, map};
 ghost use Rattle.std.specs.List.{range_with_len};
 ghost use Rattle.wire.specs.Words.{word_byte, words_byte, words_frame_byte};
