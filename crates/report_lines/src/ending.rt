@@ -22,7 +22,8 @@ fn end_bytes(outcome: Outcome, found: bool, steps: u32) -> [u8; 7]
     ]
 }
 
-// Appends the end line. It has 15 bytes; where it has no room, nothing is written.
+// Appends the end line. It has 15 bytes; where it has no room, nothing is written. The three are the line's fields, and
+// callers take them from records of their own.
 #[tactic(auto, using(wire::proofs::Adding::written_whole))]
 pub fn put_end(out: &mut Output, outcome: Outcome, found: bool, steps: u32)
     ensures appends { Appends out.old out.new (end_frame outcome found steps ∷ []) }

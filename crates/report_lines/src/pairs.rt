@@ -6,8 +6,8 @@ ghost use Rattle.report_lines.specs.RegionFrames.{ordered, tells_more, pair_writ
 
 use interface::node::opposite;
 use interface::reading::Reading;
-use wire::bytes::i32_bytes;
 use wire::output::Output;
+use wire::words::nodes_frame;
 
 // Each pair of nodes is written once, and none with its opposite.
 fn is_ordered(p: u8, q: u8) -> bool
@@ -39,8 +39,8 @@ fn is_written(reading: &Reading, p: u8, q: u8) -> bool
 fn pair_bytes(reading: &Reading, p: u8, q: u8) -> [u8; 7]
     ensures { result ≡ pair_frame reading.now p q }
 {
-    let limit = i32_bytes(reading.limit(u16::from(p), u16::from(q)));
-    [2, p, q, limit[0], limit[1], limit[2], limit[3]]
+    let limit = reading.limit(u16::from(p), u16::from(q));
+    nodes_frame(2, p, q, limit)
 }
 
 // The pair that stands at place k of a reading, if it is written.

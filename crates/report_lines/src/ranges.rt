@@ -11,7 +11,8 @@ use std::array;
 use wire::frame::Frame;
 use wire::output::Output;
 
-// The least and the greatest value of a setting, 0 for one past the settings.
+// The least and the greatest value of a setting, 0 for one past the settings. A home that is read and a box ask the
+// same of k, and take low and high from elsewhere: one function with a closure for them is no plainer.
 fn range(reading: &Reading, k: u8) -> Span
     ensures { result ≡ span_or_0 reading.now.n (low_in reading.now) (high_in reading.now) k }
 {

@@ -7,7 +7,8 @@ use interface::fault::SolverFault;
 use wire::fault_line::put_fault;
 use wire::output::Output;
 
-// Appends the fault's line. It has 15 bytes; where it has no room, nothing is written.
+// Appends the fault's line. It has 15 bytes; where it has no room, nothing is written. The two are the line's fields,
+// and callers take them from records of their own.
 #[tactic(auto, using(wire::proofs::Adding::written_whole))]
 pub fn put_refusal(out: &mut Output, fault: SolverFault, line: u16)
     ensures appends { Appends out.old out.new (fault_frame fault line ∷ []) }

@@ -4,6 +4,7 @@ ghost use Rattle.interface.specs.Grounds.{first_fault};
 ghost use Rattle.interface.specs.declared.fault.SolverFault.TheVariants.{Short};
 
 use interface::fault::SolverFault;
+use interface::guard::refuse;
 use search_theory::checkpoint::Checkpoint;
 use search_theory::region::Region;
 
@@ -20,8 +21,5 @@ pub struct Lent<'a, S, R> {
 pub(crate) fn long_enough<T>(slice: &[T], held: usize) -> Result<(), SolverFault>
     ensures { result ≡ first_fault ((nat_lt (length slice.now) held, Short) ∷ []) }
 {
-    if slice.len() < held {
-        return Err(SolverFault::Short);
-    }
-    Ok(())
+    refuse(slice.len() < held, SolverFault::Short)
 }

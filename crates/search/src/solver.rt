@@ -8,6 +8,7 @@ ghost use Rattle.search.specs.Views.{at_phase, view, view_if_any};
 
 use super::lent::long_enough;
 use interface::fault::SolverFault;
+use interface::guard::refuse;
 use interface::home::Home;
 use interface::shape::Shape;
 use search_theory::checkpoint::Checkpoint;
@@ -51,10 +52,7 @@ impl<S: Shape> Solver<S> {
     fn at(&self, phase: Phase) -> Result<(), SolverFault>
         ensures { result ≡ first_fault ((not (at_phase phase self.now.phase), SolverFault.Phase) ∷ []) }
     {
-        if self.phase != phase {
-            return Err(SolverFault::Phase);
-        }
-        Ok(())
+        refuse(self.phase != phase, SolverFault::Phase)
     }
 
     // Puts a checkpoint of the shape and the count of rules after the others, of which there are at most 4.

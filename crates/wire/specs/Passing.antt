@@ -15,7 +15,7 @@ use Rattle.interface.specs.Numbers.{within}
 use Rattle.interface.proofs.Grounds.{first_fault_append}
 
 err_not_ok : {F A : Type 0} (f : F) → ◌≡◌ {A = Result (Unit {0}) F} (Err f) (Ok tt) → A
-err_not_ok f e = let z : ◌≡◌ {A = ℕ} 0 1 = cc in absurd (omega arith)
+err_not_ok f e = cc
 
 pub next_ok : {F : Type 0} (a b : Result (Unit {0}) F) → next a b ≡ Ok tt → (a ≡ Ok tt) × (b ≡ Ok tt)
 next_ok (Ok u) b e = (refl, e)

@@ -1,4 +1,4 @@
--- Frames of numbers byte by byte: a code, a count, then the numbers, four bytes each. Assumes nothing.
+-- Frames of numbers byte by byte: a code, a byte, then the numbers, four bytes each. Assumes nothing.
 use Rattle.std.specs.Prelude.{ℕ, ◌-◌, ◌/◌, ◌%◌, cond, List, ℤ, pos, ◌==◌, slice_index, slice_index_or}
 use Rattle.std.specs.Int.{w32}
 use Rattle.std.proofs.Common.{of_z}

@@ -5,13 +5,17 @@ ghost use Rattle.wire.specs.FaultLine.{fault_line, fault_frame};
 
 use super::bytes::u16_bytes;
 use super::output::Output;
-use interface::fault::SolverFault;
+use interface::fault::{SolverFault, TextFault};
 
 // A fault of the whole text names no line.
 fn line_of(fault: SolverFault, line: u16) -> u16
     ensures { result ≡ fault_line fault line }
 {
-    if fault.code().number == 1 { 0 } else { line }
+    if fault == SolverFault::from(TextFault::Size) {
+        0
+    } else {
+        line
+    }
 }
 
 fn fault_bytes(fault: SolverFault, line: u16) -> [u8; 7]

@@ -12,7 +12,8 @@ use super::words::words_frame;
 use interface::home::{Home, Span};
 use std::array;
 
-// The low and the high of setting k, 0 past the first n.
+// The low and the high of setting k, 0 past the first n. Written here, since the numbers come from the digits: one
+// function with a closure for them is no plainer.
 fn span(digits: &[u8], n: u8, k: u8) -> Span
     ensures { result ≡ span_or_0 n (low_in (unhex digits.now)) (high_in (unhex digits.now)) k }
 {

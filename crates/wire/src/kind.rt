@@ -7,9 +7,11 @@ ghost use Rattle.wire.specs.Readers.{left_of, seen, advanced};
 ghost use Rattle.wire.specs.Text.{next_line};
 
 use super::bytes::byte_at;
-use super::frame::FrameKind;
+use super::frame::{Frame, FrameKind};
 use super::reader::Reader;
 use interface::fault::FrameFault;
+use interface::guard::refuse;
+use interface::home::Home;
 
 fn find_kind(kinds: &[FrameKind], code: u8) -> Option<FrameKind>
     ensures { result ≡ find_kind kinds.now code }
@@ -34,14 +36,8 @@ pub fn check_frame(digits: &[u8], first: bool, kinds: &[FrameKind]) -> Result<()
     let Some(kind) = find_kind(kinds, code) else {
         return Err(FrameFault::Kind(1));
     };
-    // 1 is the home's byte; what else is known the caller says
-    if first != (code == 1) {
-        return Err(FrameFault::Order(1));
-    }
-    if !is_sized(kind, digits) {
-        return Err(FrameFault::Length(1));
-    }
-    Ok(())
+    refuse(first != (code == Home::kind().code), FrameFault::Order(1))?;
+    refuse(!is_sized(kind, digits), FrameFault::Length(1))
 }
 
 // The next line of a text as a frame: its digits, or nothing where no byte is left. The reader has

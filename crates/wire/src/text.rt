@@ -7,16 +7,13 @@ ghost use Rattle.wire.specs.Text.{size_grounds, place, line_check, LineSays};
 
 use super::bytes::is_digit;
 use interface::fault::TextFault;
+use interface::guard::refuse;
 
 // Refused if the text is empty or longer than 8,192 bytes.
 pub fn text_size(text: &[u8]) -> Result<(), TextFault>
     ensures { result ≡ first_fault (size_grounds text.now) }
 {
-    if (1..=8192).contains(&text.len()) {
-        Ok(())
-    } else {
-        Err(TextFault::Size)
-    }
+    refuse(!(1..=8192).contains(&text.len()), TextFault::Size)
 }
 
 fn count_digits(line: &[u8]) -> usize
@@ -31,24 +28,19 @@ fn place_behind(count: usize) -> u16
     count.min(65534) as u16 + 1
 }
 
-// Each ground in its order, over the whole line. One lemma then tells what the five answers say, in `check_line`.
+// Each ground in its order, over the whole line. Apart from `check_line`, so that what each answer says of the line is
+// proved from the grounds alone, and not once for each way out of the body.
 fn line_faults(line: &[u8], ended: bool) -> Result<(), TextFault>
     ensures { result ≡ line_check line.now ended }
 {
     let digits = count_digits(line);
-    if digits < line.len() {
-        return Err(TextFault::Byte(place_behind(digits)));
-    }
-    if line.len() > 132 {
-        return Err(TextFault::Long(133));
-    }
-    if line.is_empty() || line.len() % 2 == 1 {
-        return Err(TextFault::Digits(place_behind(line.len())));
-    }
-    if !ended {
-        return Err(TextFault::Unended(place_behind(line.len())));
-    }
-    Ok(())
+    refuse(digits < line.len(), TextFault::Byte(place_behind(digits)))?;
+    refuse(line.len() > 132, TextFault::Long(133))?;
+    refuse(
+        line.is_empty() || line.len() % 2 == 1,
+        TextFault::Digits(place_behind(line.len())),
+    )?;
+    refuse(!ended, TextFault::Unended(place_behind(line.len())))
 }
 
 // Refused if a byte is no digit, if there is a 133rd digit, no digit or an odd count of them, or no line feed behind

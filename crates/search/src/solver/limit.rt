@@ -7,6 +7,7 @@ ghost use Rattle.search.specs.Views.{view};
 use super::Solver;
 use interface::extent::Extent;
 use interface::fault::{RecordFault, SolverFault};
+use interface::guard::refuse;
 use interface::node::opposite;
 use interface::shape::Shape;
 
@@ -17,18 +18,10 @@ impl<S: Shape> Solver<S> {
         ensures bounds { LimitBounds S.model (view self.now) p q result }
     {
         let nodes = 2 * self.shape.n() as usize;
-        if p as usize >= nodes {
-            return Err(SolverFault::Record(RecordFault::Node(2)));
-        }
-        if q as usize >= nodes {
-            return Err(SolverFault::Record(RecordFault::Node(3)));
-        }
-        if q == opposite(p) {
-            return Err(SolverFault::Record(RecordFault::Clash(3)));
-        }
-        if self.shape.extent() == Extent::Void {
-            return Err(SolverFault::Void);
-        }
+        refuse(p as usize >= nodes, RecordFault::Node(2))?;
+        refuse(q as usize >= nodes, RecordFault::Node(3))?;
+        refuse(q == opposite(p), RecordFault::Clash(3))?;
+        refuse(self.shape.extent() == Extent::Void, SolverFault::Void)?;
         Ok(self.shape.limit(p, q))
     }
 }
