@@ -42,5 +42,5 @@ pub fn read_rule(digits: &[u8]) -> AnyRule
 pub fn no_rule() -> AnyRule
     ensures { result ≡ filler }
 {
-    AnyRule::from(PairRule { p: 0, q: 0, c: 0 })
+    AnyRule::default()
 }

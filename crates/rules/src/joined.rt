@@ -1,4 +1,4 @@
-// A rule of either of two: it answers as that rule does.
+// A rule of either of two: it answers as that rule does. An enum of its own and no Result, as neither of them is an error.
 ghost use Rattle.rules.specs.Joins.{IsFirst, joined};
 ghost use Rattle.rules.specs.JoinsLemmas.{joined_laws};
 
