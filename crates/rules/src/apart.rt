@@ -10,9 +10,10 @@ use interface::guard::{Core, refuse};
 use interface::point::Point;
 use interface::reading::Reading;
 use rule_base::bounds::{cut_at, gap, negative};
-use wire::bytes::{byte_at, i32_at, i32_bytes};
+use wire::bytes::{byte_at, i32_at};
 use wire::frame::{Frame, FrameKind};
 use wire::output::Output;
+use wire::words::nodes_frame;
 
 // Settings a and b differ by at least d.
 #[derive(Clone, Copy)]
@@ -90,16 +91,6 @@ impl Core for ApartRule {
     }
 }
 
-impl ApartRule {
-    fn bytes(&self) -> [u8; 7]
-        ensures { result ≡ (by_table apart_codec).write self.now }
-    {
-        let mut bytes = [5, self.a, self.b, 0, 0, 0, 0];
-        bytes[3..].copy_from_slice(&i32_bytes(self.d));
-        bytes
-    }
-}
-
 impl Frame for ApartRule {
     ghost frame = { by_table apart_codec };
 
@@ -122,6 +113,6 @@ impl Frame for ApartRule {
     }
 
     fn write(&self, out: &mut Output) -> bool {
-        out.put_line(&self.bytes())
+        out.put_line(&nodes_frame(5, self.a, self.b, self.d))
     }
 }

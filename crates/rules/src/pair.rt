@@ -11,9 +11,10 @@ use interface::node::opposite;
 use interface::point::Point;
 use interface::reading::Reading;
 use rule_base::bounds::{cut_at, negative};
-use wire::bytes::{byte_at, i32_at, i32_bytes};
+use wire::bytes::{byte_at, i32_at};
 use wire::frame::{Frame, FrameKind};
 use wire::output::Output;
+use wire::words::nodes_frame;
 
 // v(p) + v(q) is at most c.
 #[derive(Clone, Copy, Default)]
@@ -62,16 +63,6 @@ impl Core for PairRule {
     }
 }
 
-impl PairRule {
-    fn bytes(&self) -> [u8; 7]
-        ensures { result ≡ (by_table pair_codec).write self.now }
-    {
-        let mut bytes = [2, self.p, self.q, 0, 0, 0, 0];
-        bytes[3..].copy_from_slice(&i32_bytes(self.c));
-        bytes
-    }
-}
-
 impl Frame for PairRule {
     ghost frame = { by_table pair_codec };
 
@@ -94,6 +85,6 @@ impl Frame for PairRule {
     }
 
     fn write(&self, out: &mut Output) -> bool {
-        out.put_line(&self.bytes())
+        out.put_line(&nodes_frame(2, self.p, self.q, self.c))
     }
 }
