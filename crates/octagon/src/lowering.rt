@@ -36,8 +36,8 @@ fn row(limits: &[i32; 256], p: usize) -> [i32; 16]
     array::from_fn(|q| limits[16 * p + q])
 }
 
-// The shorter way from i over the cut that ends at b: by a, or by b and once more over the cut. Only a `Crossing` is made of
-// the limits, a, b and c together, and its methods take no more than the limits.
+// The shorter way from i over the cut that ends at b: by a, or by b and once more over the cut. The limits, a, b and c are
+// what a `Crossing` is made of; of its methods only `half` and `halves` read the limits again, for the entries (i, i).
 fn way(limits: &[i32; 256], a: usize, b: usize, c: i32, i: usize) -> i32
     requires { (a < 16) × (b < 16) × (i < 16) }
     ensures { result ≡ way limits.now a b c i }
@@ -79,13 +79,13 @@ impl Crossing {
         }
     }
 
-    // The shortest way from i to j, past the cut or over it.
-    fn shortest(&self, limits: &[i32; 256], i: usize, j: usize) -> i32
+    // The shortest way from i to j, past the cut, which is the entry (i, j), or over it.
+    fn shortest(&self, entry: i32, i: usize, j: usize) -> i32
         requires { (i < 16) × (j < 16) }
-        ensures { result ≡ shortest_by self.now (at limits.now i j) i j }
+        ensures { result ≡ shortest_by self.now entry i j }
     {
         let over = sum(self.by_b[i], self.to_b[j]).min(sum(self.by_a[i], self.to_a[j]));
-        limits[16 * i + j].min(over)
+        entry.min(over)
     }
 
     // Half the way from i to itself, rounded down.
@@ -93,7 +93,7 @@ impl Crossing {
         requires { i < 16 }
         ensures { result ≡ half_by self.now limits.now i }
     {
-        half_of(self.shortest(limits, i, i))
+        half_of(self.shortest(limits[16 * i + i], i, i))
     }
 
     fn halves(&self, limits: &[i32; 256]) -> [i32; 16]
@@ -103,11 +103,11 @@ impl Crossing {
     }
 
     // The entry (i, j) that the cut leaves: the shortest way, and at most the sum of the two halves.
-    fn joined(&self, limits: &[i32; 256], halves: &[i32; 16], i: usize, j: usize) -> i32
+    fn joined(&self, entry: i32, halves: &[i32; 16], i: usize, j: usize) -> i32
         requires { (i < 16) × (j < 16) }
-        ensures { result ≡ joined_by self.now halves.now i j (at limits.now i j) }
+        ensures { result ≡ joined_by self.now halves.now i j entry }
     {
-        self.shortest(limits, i, j).min(sum(halves[i], halves[j]))
+        self.shortest(entry, i, j).min(sum(halves[i], halves[j]))
     }
 }
 
@@ -122,7 +122,7 @@ pub(crate) fn lower(limits: &mut [i32; 256], n: u8, a: usize, b: usize, c: i32)
     // by index: an entry goes with the ways and the halves of its row and of its column
     for i in 0..w {
         for j in 0..w {
-            limits[16 * i + j] = cut.joined(limits, &halves, i, j);
+            limits[16 * i + j] = cut.joined(limits[16 * i + j], &halves, i, j);
         }
     }
 }

@@ -8,9 +8,10 @@ use Rattle.octagon.proofs.lowering.lower.Goals as goal
 pub loop-j-preserved : goal.loop-j-preserved
 loop-j-preserved c =
     let joined = joined_by c.new-cut.result c.halves-halves.result c.loop-i.i in
-    let fits : SFits w32 c.joined.result = search rules in (
+    let fits : SFits w32 c.joined.result = search rules in
+    let entry : SFits w32 (at c.loop-j.limits c.loop-i.i c.loop-j.j) = search rules in (
       length-set _ _ _ ∙ c.loop-j.invariant.0,
-      simp to_z-of_z (row_more joined c.loop-j.limits c.loop-i.limits c.loop-i.i c.loop-j.j c.joined.result c.loop-j.invariant.0 (omega arith) (omega arith) c.loop-j.invariant.1 c.joined.ensures),
+      simp to_z-of_z (row_more joined c.loop-j.limits c.loop-i.limits c.loop-i.i c.loop-j.j c.joined.result c.loop-j.invariant.0 (omega arith) (omega arith) c.loop-j.invariant.1 (simp to_z-of_z at c.joined.ensures)),
     )
 
 pub loop-i-preserved : goal.loop-i-preserved
