@@ -1,5 +1,5 @@
 -- The sum rule: three coefficients times settings add up to at most t. Assumes nothing.
-use Rattle.std.specs.Prelude.{ℕ, ◌+◌, ◌*◌, Bool, true, false, cond, not, ◌&&◌, ◌||◌, List, [], ◌∷◌, ℤ, pos, ◌+ℤ◌, ◌-ℤ◌, ◌*ℤ◌, None, Option, ◌==◌, int_le, int_lt, nat_le, slice_index, slice_index_or, unsigned_abs}
+use Rattle.std.specs.Prelude.{◌≡◌, ℕ, ◌+◌, ◌*◌, Bool, true, false, cond, not, ◌&&◌, ◌||◌, List, [], ◌∷◌, ℤ, pos, ◌+ℤ◌, ◌-ℤ◌, ◌*ℤ◌, None, Option, ◌==◌, int_le, int_lt, nat_le, slice_index, slice_index_or, unsigned_abs}
 use Rattle.std.proofs.Common.{to_z}
 use Rattle.std.specs.Int.{int_div_euclid, w8, w32}
 use Rattle.interface.specs.declared.cut.Cut.{Cut}
@@ -69,6 +69,10 @@ greatest_of g u = times u.coefficient (cond (int_lt u.coefficient (pos 0)) (low_
 -- the total over the three terms
 abbrev pub three : (Term → ℤ) → SumRule → ℤ
 three f r = (f r.first +ℤ f r.second) +ℤ f r.third
+
+-- z is the total over the three terms of amounts that P allows
+abbrev pub ThreeOf : (Term → ℤ → Type 0) → SumRule → ℤ → Type 0
+ThreeOf P r z = (a : ℤ) × (b : ℤ) × (c : ℤ) × P r.first a × P r.second b × P r.third c × (z ≡ (a +ℤ b) +ℤ c)
 
 -- the total at the point x, or the least or greatest within the reading, against t
 abbrev pub sum_meets : SumRule → List ℤ → Bool

@@ -1,8 +1,9 @@
 // The sum rule: multiples of three settings add up to at most a number.
 ghost use Rattle.std.specs.Prelude.{◌≡◌, ◌+◌, ◌*◌, ◌^◌, ◌≤◌, false, pos, if◌then◌else◌, int_lt, unsigned_abs};
+ghost use Rattle.std.specs.Fn.{FnReturnsAt};
 ghost use Rattle.std.specs.Int.{int_div_euclid};
 ghost use Rattle.interface.specs.Points.{values_of};
-ghost use Rattle.sum_rule.specs.Sums.{sum_core, times, is_empty, clash, wrong_number, term_at, least_of, greatest_of, three, left_for, term_cut};
+ghost use Rattle.sum_rule.specs.Sums.{sum_core, times, is_empty, clash, wrong_number, term_at, least_of, greatest_of, three, ThreeOf, left_for, term_cut};
 ghost use Rattle.sum_rule.specs.SumsLemmas.{sum_core_laws};
 
 use interface::cut::Cut;
@@ -106,24 +107,32 @@ impl Term {
     }
 }
 
-// Term by term: summing an array of signed numbers leaves the bound of the total open.
 impl SumRule {
+    // The three amounts together. Term by term: summing an array of signed numbers leaves the bound of the total open.
+    fn three<F: Fn(&Term) -> i64>(&self, amount: F) -> i64
+        requires callable { F.IsAlwaysCallable amount }
+        requires bound { (u : _) (z : _) → F.post amount u z → unsigned_abs z ≤ 2 ^ 38 }
+        ensures { ThreeOf (FnReturnsAt F.Fn amount) self.now result }
+    {
+        amount(&self.first) + amount(&self.second) + amount(&self.third)
+    }
+
     fn total_at(&self, point: &Point) -> i64
         ensures { result ≡ three (term_at (values_of point.now)) self.now }
     {
-        self.first.at(point) + self.second.at(point) + self.third.at(point)
+        self.three(|u| u.at(point))
     }
 
     fn least(&self, reading: &Reading) -> i64
         ensures { result ≡ three (least_of reading.now) self.now }
     {
-        self.first.least(reading) + self.second.least(reading) + self.third.least(reading)
+        self.three(|u| u.least(reading))
     }
 
     fn greatest(&self, reading: &Reading) -> i64
         ensures { result ≡ three (greatest_of reading.now) self.now }
     {
-        self.first.greatest(reading) + self.second.greatest(reading) + self.third.greatest(reading)
+        self.three(|u| u.greatest(reading))
     }
 
     // What t leaves for one term when the other two are least.
