@@ -1,8 +1,8 @@
 -- What an accepted text shows: its home and its rules pass their checks, and there are at most 32 of them. Assumes nothing.
 use Rattle.std.proofs.Common.{◌≡◌, ℕ, zero, suc, ◌≤◌, Bool, true, false, cond, leb, List, [], ◌∷◌, ◌++◌, length, drop, Some, None, Ok, Err, Option, Result, sym, refl, ap, ◌∙◌, subst, arith}
-use Rattle.std.proofs.lemmas.List.Elements.{All-nil, All-push}
+use Rattle.std.proofs.ByRecursion.{All-push}
 use Rattle.std.proofs.lemmas.List.{length_push}
-use Rattle.std.specs.List.{All}
+use Rattle.std.specs.List.{AllByRecursion}
 use Rattle.interface.specs.declared.fault.FrameFault.{FrameFault}
 use Rattle.interface.specs.declared.fault.RecordFault.{RecordFault}
 use Rattle.interface.specs.declared.fault.RecordFault.TheVariants.{Frame}
@@ -60,7 +60,7 @@ stated_by_rule count (Err f) r d = absurd (ok_err d)
 
 -- rules that pass their checks, at most 32
 abbrev pub Good : ℕ → List AnyRule → Type 0
-Good n rs = All (λ r. any_model.check n r ≡ Ok tt) rs × (length rs ≤ 32)
+Good n rs = AllByRecursion (λ r. any_model.check n r ≡ Ok tt) rs × (length rs ≤ 32)
 
 good_more : (n : ℕ) (left : List ℕ) (rs : List AnyRule) (r : AnyRule) → stated_line n (length rs) left ≡ Ok (Some r) → Good n rs → Good n (rs ++ r ∷ [])
 good_more n left rs r d g =
@@ -100,4 +100,4 @@ read_sound text p d =
     let lines = from_ok (home_line text) Record or_empty h homes.1 in
     let good = home_passed text h (lines.1 ∙ ap Ok (there lines.0 h lines.2)) in
     let rules = rules_there h (rules_from (length text) h.n (drop (used (next_line text)) text) (next_number text 0) []) p homes.2 in
-    subst (λ q. Passes q.home × Good q.home.n q.rules) rules.2 (good, rules_good (length text) h.n (drop (used (next_line text)) text) (next_number text 0) [] rules.0 rules.1 (All-nil (λ r. any_model.check h.n r ≡ Ok tt), omega arith))
+    subst (λ q. Passes q.home × Good q.home.n q.rules) rules.2 (good, rules_good (length text) h.n (drop (used (next_line text)) text) (next_number text 0) [] rules.0 rules.1 (tt, omega arith))
