@@ -1,1 +1,2 @@
 pub mod ByCuts
+pub mod Points
