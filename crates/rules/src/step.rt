@@ -50,14 +50,14 @@ impl StepRule {
         remainder(self.m, gap(x, y))
     }
 
-    // Apart from `greatest_up_to`, whose law is proved from this equation.
+    // Apart from `greatest_up_to`, whose law is proved from this equation: so a wrong body is refused here, at the code.
     fn last_up_to(&self, z: i32) -> i64
         ensures { result ≡ last_up_to self.now z }
     {
         i64::from(z) - self.rest_of(z, self.r)
     }
 
-    // Apart from `least_from`, whose law is proved from this equation and this bound.
+    // Apart from `least_from`, for the same reason.
     fn first_from(&self, z: i32) -> i64
         ensures value { result ≡ first_from self.now z }
         ensures bound { unsigned_abs result ≤ 2 ^ 33 }
