@@ -119,8 +119,8 @@ pub(crate) fn lower(limits: &mut [i32; 256], n: u8, a: usize, b: usize, c: i32)
     let cut = Crossing::new(limits, a, b, c);
     let halves = cut.halves(limits);
     let w = nodes(n);
-    // by index: with chunks_exact_mut and enumerate the proof that each row is lowered did not close, since after the loop it
-    // knows no element of a lent row; array::from_fn over the matrix took 5,035 instructions a cut, the loops 1,063
+    // by index: with chunks_exact_mut and enumerate the proof that each row is lowered did not close, since after the loop
+    // it knows no element of a lent row; array::from_fn over the matrix took 5,035 instructions a cut, the loops 1,063
     for i in 0..w {
         for j in 0..w {
             limits[16 * i + j] = cut.joined(limits[16 * i + j], &halves, i, j);

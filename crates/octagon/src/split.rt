@@ -11,8 +11,8 @@ use halving::{halvings, single, widest};
 use interface::extent::Extent;
 use std::array;
 
-// Five contracts here say that a value is within 2^30 of 0, as half a limit of 32 bits is; the ends of `low` are the others'
-// negated. A type for such values would be made and taken apart at each call.
+// Five contracts here say that a value is within 2^30 of 0, as half a limit of 32 bits is; the ends of `low` are those of
+// the others negated. A type for such values would be made and taken apart at each call.
 
 // The bound of the cut to values up to m.
 fn below_middle(m: i32) -> i32
