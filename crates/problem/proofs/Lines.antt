@@ -27,12 +27,12 @@ rules_more k lines n r rs count h e =
 
 -- a rule is stated only where there is place for it
 room_if : (count : ℕ) (b : Bool) (r t : AnyRule) → leb 32 count ≡ b → ◌≡◌ {A = Result (Option AnyRule) SolverFault} (cond b (Err Rules) (Ok (Some r))) (Ok (Some t)) → count < 32
-room_if count true r t e d = let z : ◌≡◌ {A = ℕ} 0 1 = cc in omega arith
+room_if count true r t e d = cc
 room_if count false r t e d = leb-false 32 count e
 
 room_by : (count : ℕ) (o : Result (Option AnyRule) RecordFault) (t : AnyRule) → after o Record (λ p. if_any p (placed count)) ≡ Ok (Some t) → count < 32
-room_by count (Err f) t d = let z : ◌≡◌ {A = ℕ} 0 1 = cc in omega arith
-room_by count (Ok None) t d = let z : ◌≡◌ {A = ℕ} 0 1 = cc in omega arith
+room_by count (Err f) t d = cc
+room_by count (Ok None) t d = cc
 room_by count (Ok (Some r)) t d = room_if count (leb 32 count) r t refl d
 
 pub room : (n count : ℕ) (left : List ℕ) (t : AnyRule) → Ok (Some t) ≡ stated_line n count left → count < 32
@@ -47,7 +47,7 @@ stepped k lines n count r r' rs o h e d a =
 
 -- a fault that was raised: the one below it, and what the raising made of it
 pub raised : {A E F : Type 0} (R : E → F → Type 0) (o : Result A E) (m : Result A F) (f : F) → MatchResult o (λ x. m ≡ Ok x) (λ e. IsErrAnd m (R e)) → m ≡ Err f → (e : E) × (o ≡ Err e) × R e f
-raised R (Ok a) m f h w = let z : ◌≡◌ {A = ℕ} 0 1 = cc in absurd (omega arith)
+raised R (Ok a) m f h w = cc
 raised R (Err e) m f h w =
     let p = err_from_is_err_and m h in
     let same : p.0 ≡ f = cc in

@@ -22,10 +22,10 @@ use Rattle.problem.proofs.Lines.{room}
 
 -- two different answers are no one answer
 ok_err : {A E : Type 0} {a : A} {e : E} → ◌≡◌ {A = Result A E} (Err e) (Ok a) → ⊥
-ok_err d = let z : ◌≡◌ {A = ℕ} 0 1 = cc in omega arith
+ok_err d = cc
 
 none_some : {A E : Type 0} {a : A} → ◌≡◌ {A = Result (Option A) E} (Ok None) (Ok (Some a)) → ⊥
-none_some d = let z : ◌≡◌ {A = ℕ} 0 1 = cc in omega arith
+none_some d = cc
 
 some_same : {A E : Type 0} {a b : A} → ◌≡◌ {A = Result (Option A) E} (Ok (Some a)) (Ok (Some b)) → a ≡ b
 some_same d = cc

@@ -25,11 +25,7 @@ pub fn home_line(reader: &mut Reader) -> Result<Option<Home>, RecordFault>
     ensures value { result ≡ home_line (left_of reader.old) }
     ensures after { reader.new ≡ advanced reader.old }
 {
-    let known = kinds();
-    let Some(digits) = next_frame(reader, true, &known)? else {
-        return Ok(None);
-    };
-    home_of(digits)
+    next_frame(reader, true, &kinds())?.map_or(Ok(None), home_of)
 }
 
 fn rule_of(digits: &[u8], n: u8) -> Result<Option<AnyRule>, RecordFault>
@@ -44,11 +40,7 @@ fn rule_line(reader: &mut Reader, n: u8) -> Result<Option<AnyRule>, RecordFault>
     ensures value { result ≡ rule_line n (left_of reader.old) }
     ensures after { reader.new ≡ advanced reader.old }
 {
-    let known = kinds();
-    let Some(digits) = next_frame(reader, false, &known)? else {
-        return Ok(None);
-    };
-    rule_of(digits, n)
+    next_frame(reader, false, &kinds())?.map_or(Ok(None), |digits| rule_of(digits, n))
 }
 
 // A rule that has no place is refused after its own grounds.
