@@ -33,9 +33,7 @@ pub fn check_frame(digits: &[u8], first: bool, kinds: &[FrameKind]) -> Result<()
     ensures { result ≡ first_fault (frame_grounds kinds.now first (unhex digits.now)) }
 {
     let code = byte_at(digits, 0);
-    let Some(kind) = find_kind(kinds, code) else {
-        return Err(FrameFault::Kind(1));
-    };
+    let kind = find_kind(kinds, code).ok_or(FrameFault::Kind(1))?;
     refuse(first != (code == Home::kind().code), FrameFault::Order(1))?;
     refuse(!is_sized(kind, digits), FrameFault::Length(1))
 }
