@@ -16,7 +16,7 @@ use interface::point::Point;
 use interface::shape::Shape;
 use std::array;
 
-// The home's spans, and 0 past its settings.
+// The home's spans, and 0 past its settings. A frame and a region's ranges are filled so too, each from ends of its own.
 fn spans_of(home: &Home) -> [Span; 8]
     ensures { result ≡ home_spans home.now }
 {
