@@ -49,6 +49,7 @@ impl<S: Shape> Solver<S> {
     }
 
     // Takes waiting regions step by step, at most `budget` of them, and puts what is handed out in the out slice from its front.
+    // Its slices are lent one by one: who runs a search by this call alone has no checkpoints to lend.
     pub fn run<R: Rule>(
         &mut self,
         rules: &[R],
