@@ -1,4 +1,4 @@
-// The grounds of a refusal in words: the faults are another crate's, so no Display of theirs can stand here.
+// The grounds of a refusal in the fitter's words, and no Display of the faults: the library speaks in numbers.
 use interface::fault::{RecordFault, SolverFault};
 
 fn of_record(fault: RecordFault) -> &'static str {

@@ -58,7 +58,7 @@ fn tell_region(rt: &HostRuntime, region: &Region<Octagon>) -> io::Result<()> {
     println!(rt; "")
 }
 
-// In words, for the fitter: the enum is another crate's, so no Display of it can stand here.
+// In the fitter's words, and no Display of the enum: the library speaks in numbers.
 fn outcome_words(outcome: Outcome) -> &'static str {
     match outcome {
         Outcome::Done => "done",
