@@ -41,6 +41,7 @@ pub trait Core: Copy {
         ensures { result ≡ core.all_within self.now reading.now };
 
     // The cut that every point that meets the rule meets, where there is one.
+    // With no body of its own, since what it answers is each core's.
     fn standing_cut(&self) -> Option<Cut>
         ensures { result ≡ core.standing self.now };
 

@@ -41,6 +41,7 @@ impl Home {
         self.check_order()
     }
 
+    // That k is below 8 and n at most 8 is asked twice each below; types for them would be made and taken apart at once.
     fn check_range(&self, k: u8) -> Result<(), RecordFault>
         requires { k < 8 }
         ensures { result ≡ first_fault (range_grounds self.now k) }
@@ -62,6 +63,7 @@ impl Home {
         requires { self.now.n ≤ 8 }
         ensures { result ≡ first_fault (flat_map (range_grounds self.now) (range_with_len 0 self.now.n)) }
     {
+        // by number: the place that a fault names is made of k
         for k in 0..self.n {
             self.check_range(k)?;
         }

@@ -7,6 +7,9 @@ ghost use Rattle.octagon.specs.Crossings.{crossing, shortest_by, half_by, joined
 
 use std::array;
 
+// That a node is below 16 many functions here ask: it is read off a loop over the nodes or passed on, and a type for it
+// would be made and taken apart at each index.
+
 // The sum, which wraps past 32 bits: no octagon that is made comes near them.
 pub(crate) fn sum(a: i32, b: i32) -> i32
     ensures { result ≡ plus a b }

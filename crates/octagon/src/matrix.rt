@@ -18,7 +18,7 @@ pub struct Octagon {
     pub(crate) limits: [i32; 256],
 }
 
-// The greatest v(p) at home.
+// The greatest v(p) at home. That p is below 16 is asked as in lowering: a type for it would be taken apart at each index.
 #[tactic(auto, using(std::proofs::lemmas::Int::wraps))]
 fn top_at(home: &Home, p: u8) -> i32
     requires { p < 16 }

@@ -10,7 +10,8 @@ use super::matrix::Octagon;
 use interface::point::Point;
 
 impl Octagon {
-    // Whether v(p) + v(q) of the point is at most the limit (p, q).
+    // Whether v(p) + v(q) of the point is at most the limit (p, q). That a node is below 16 and n at most 8 the five here ask:
+    // types for them would be made and taken apart at each call.
     fn is_under(&self, point: &Point, p: u8, q: u8) -> bool
         requires { (p < 16) × (q < 16) }
         ensures { result ≡ int_le (value (values_of point.now) p +ℤ value (values_of point.now) q) (at self.now.limits p q) }

@@ -17,8 +17,8 @@ use interface::home::Home;
 use interface::point::Point;
 use interface::shape::Shape;
 
-// `from_home`, `cut_by`, `parts`, `extent_of`, `holds_point`, `least_point` and `count_halvings` stay functions of their own:
-// each promises its equation alone, and the clause `made` here is proved from that.
+// `from_home`, `parts`, `extent_of`, `holds_point`, `least_point` and `count_halvings` stay functions of their own: each
+// promises its equation alone, and the clause `made` here is proved from that.
 impl Shape for Octagon {
     ghost model = { octagon_model };
 

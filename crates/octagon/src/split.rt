@@ -31,6 +31,7 @@ fn above_middle(m: i32) -> i32
 }
 
 impl Octagon {
+    // `high` and `low` stand in a reading too: to make one first would copy all limits.
     // The greatest value of setting k. That k is below 8 each of the four asks: a type for it would be made at each call.
     fn high(&self, k: u8) -> i32
         requires { k < 8 }

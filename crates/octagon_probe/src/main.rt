@@ -11,7 +11,7 @@ use interface::shape::Shape;
 use octagon::matrix::Octagon;
 use std::{array, io};
 
-// Small points, of as many settings as the octagon and of others.
+// Small points, of as many settings as the octagon and of others; of three settings, where box_probe takes two.
 fn small_points() -> [Point; 648] {
     array::from_fn(|i| {
         let a = place((i / 36 % 6) as u8);

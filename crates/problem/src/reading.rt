@@ -13,6 +13,7 @@ use wire::kind::next_frame;
 use wire::reader::Reader;
 use wire::text::text_size;
 
+// This and `rule_of` read a record and check it: a function over both would take the two as closures, and be longer.
 fn home_of(digits: &[u8]) -> Result<Option<Home>, RecordFault>
     ensures { result ≡ homed digits.now }
 {
