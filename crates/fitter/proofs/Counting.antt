@@ -1,5 +1,5 @@
 -- Each answered request moves the desk's counts as it moves the solver's own: by the ground that decided it. Assumes nothing.
-use Rattle.std.proofs.Common.{◌≡◌, ℕ, ◌+◌, ◌-◌, Bool, true, false, cond, ◌||◌, eqb, leb, List, length, take, set, Some, None, Ok, Err, Option, Result, sym, refl, ap, ◌∙◌, subst, true≢false}
+use Rattle.std.proofs.Common.{◌≡◌, ℕ, ◌+◌, ◌-◌, Bool, true, false, cond, ◌||◌, List, take, set, Some, None, Ok, Err, Option, Result, sym, refl, ap, ◌∙◌, subst, true≢false}
 use Rattle.std.specs.List.{slice_get}
 use Rattle.interface.specs.declared.fault.SolverFault.{SolverFault}
 use Rattle.interface.specs.Grounds.{first_fault}
@@ -17,12 +17,12 @@ use Rattle.search_theory.specs.declared.reply.Reply.TheVariants.{Ran, LimitIs}
 use Rattle.search_theory.specs.declared.request.Request.{Request}
 use Rattle.search_theory.specs.declared.request.Request.TheVariants.{State, Mark, Back, Keep, Begin, Run, Leave, Limit}
 use Rattle.search_theory.specs.Calls.{state_grounds, mark_grounds, back_grounds, keep_grounds, begin_grounds, leave_grounds, run_grounds, limit_call, stated, marked, restored, at_hand, after_run}
-use Rattle.search_theory.specs.Requests.{World, Answered, answer, replied, accepted}
+use Rattle.search_theory.specs.Requests.{World, answer, replied, accepted}
 use Rattle.search_theory.specs.Runs.{run_from, report_of}
 use Rattle.search_theory.specs.Solving.{Solving, Left, left, refused, decided}
 use Rattle.fitter.specs.declared.counts.Counts.{Counts}
 use Rattle.fitter.specs.declared.store.Memory.{Memory}
-use Rattle.fitter.specs.Counting.{one_more, back_to, moved, after, by_answer}
+use Rattle.fitter.specs.Counting.{back_to, moved, after, by_answer}
 use Rattle.fitter.specs.Sessions.{world}
 
 abbrev counted : Solving Octagon → Counts

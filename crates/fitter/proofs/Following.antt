@@ -1,5 +1,5 @@
 -- Opening starts a history and each call makes it one call longer, by what the contracts of the two say. Assumes nothing.
-use Rattle.std.proofs.Common.{◌≡◌, List, [], ◌++◌, length, IfOk, Some, None, Ok, Err, Option, Result, sym, refl, ap, subst}
+use Rattle.std.proofs.Common.{◌≡◌, List, [], length, IfOk, Some, Ok, Err, Option, Result, sym, refl, ap, subst}
 use mathlib.Core.Logic.{∥∥₁_map}
 use Rattle.std.proofs.lemmas.List.{append-nil}
 use Rattle.interface.specs.declared.fault.RecordFault.{RecordFault}
@@ -17,7 +17,7 @@ use Rattle.search_theory.specs.declared.reply.Reply.{Reply}
 use Rattle.search_theory.specs.declared.request.Request.{Request}
 use Rattle.search_theory.specs.Ledgers.{Ledger, History, noted, opened_ledger}
 use Rattle.search_theory.specs.Ledgers.History.{start, call}
-use Rattle.search_theory.specs.Requests.{World, Answered, whole, answer}
+use Rattle.search_theory.specs.Requests.{World, whole, answer}
 use Rattle.search_theory.specs.Solving.{Solving, opened, open_call, decided}
 use Rattle.fitter.specs.declared.store.Memory.{Memory}
 use Rattle.session.specs.Promised.{PromisedWhole}

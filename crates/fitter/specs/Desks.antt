@@ -1,5 +1,5 @@
 -- What the desk's calls come to. Assumes nothing.
-use Rattle.std.specs.Prelude.{◌≡◌, Bool, false, not}
+use Rattle.std.specs.Prelude.{Bool, false, not}
 use Rattle.search_theory.specs.declared.outcome.Outcome.{Outcome}
 use Rattle.search_theory.specs.declared.outcome.Outcome.TheVariants.{Done, Spent, ListFull, StackFull}
 use Rattle.search_theory.specs.declared.report.Report.{Report}

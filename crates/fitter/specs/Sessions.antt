@@ -1,5 +1,5 @@
 -- A session as a history of calls over the desk's memory. Assumes nothing.
-use Rattle.std.specs.Prelude.{◌≡◌, List, [], Some, None, Ok, Err, Option, Result}
+use Rattle.std.specs.Prelude.{◌≡◌, [], Some, None, Ok, Err, Option, Result}
 use Rattle.interface.specs.declared.fault.SolverFault.{SolverFault}
 use Rattle.interface.specs.declared.home.Home.{Home}
 use Rattle.octagon.specs.declared.matrix.Octagon.{Octagon}

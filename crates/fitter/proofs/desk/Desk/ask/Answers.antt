@@ -1,13 +1,10 @@
 -- The session's history with one call more, and on it everything that is promised; the counts go with the solver's.
-use Rattle.std.proofs.Common.{◌≡◌, sym, refl, ap, ◌∙◌, subst}
+use Rattle.std.proofs.Common.{◌≡◌, sym, ap, ◌∙◌, subst}
 use Rattle.fitter.proofs.Counting.{counts_follow}
 use Rattle.fitter.proofs.Following.{asked}
 use Rattle.fitter.proofs.desk.Desk.ask.Goals as goal
 use Rattle.fitter.specs.Counting.{rules_in, marks_in}
 use Rattle.fitter.specs.Sessions.{Session}
-
-pub invariant_of-self : goal.invariant_of-self
-invariant_of-self c = record { session = ∣ tt ∣₁; standing = refl; marked = refl }
 
 pub invariant_of-self-5 : goal.invariant_of-self-5
 invariant_of-self-5 c =
