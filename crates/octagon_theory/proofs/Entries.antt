@@ -12,7 +12,8 @@ use Rattle.interface.specs.Nodes.{opp, value}
 use Rattle.interface.specs.Numbers.{half, within}
 use Rattle.octagon_theory.specs.Limits.{top_of, home_entry, is_between, entry}
 use Rattle.octagon_theory.proofs.Halves.{half_sum}
-use Rattle.octagon_theory.proofs.Nodes.{opp_opp, value_opp, Side, side, even, odd}
+use Rattle.interface.proofs.Values.{value_opp}
+use Rattle.octagon_theory.proofs.Nodes.{opp_opp, Side, side, even, odd}
 
 -- no cut is between opposite nodes
 pub not_opposite : (t : Cut) → t.q ≢ opp t.p

@@ -19,7 +19,8 @@ use Rattle.octagon_theory.proofs.Chains.{least_is, least_symmetric, least_triang
 use Rattle.octagon_theory.proofs.Entries.{entry_symmetric, entry_opposite, entry_above, home_from_entry, meets_from_entry}
 use Rattle.octagon_theory.proofs.Halves.{half_is, half_sum}
 use Rattle.octagon_theory.proofs.Line.{flip, on_line, rounded_line, below_rounded, below_unrounded, some_point, reached}
-use Rattle.octagon_theory.proofs.Nodes.{opp_below, value_opp}
+use Rattle.interface.proofs.Values.{value_opp}
+use Rattle.octagon_theory.proofs.Nodes.{opp_below}
 use Rattle.octagon_theory.proofs.Tight.{Closed}
 
 -- ---- a test over the nodes of a line

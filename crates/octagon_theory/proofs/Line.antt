@@ -7,7 +7,8 @@ use Rattle.interface.specs.Nodes.{opp, value}
 use Rattle.interface.specs.Numbers.{half}
 use Rattle.octagon_theory.specs.Matrices.{TightlyClosed, Below, shortest, rounded, least_values}
 use Rattle.octagon_theory.proofs.LeastPoint.{least_below, length_least_values}
-use Rattle.octagon_theory.proofs.Nodes.{opp_opp, opp_below, value_opp}
+use Rattle.interface.proofs.Values.{value_opp}
+use Rattle.octagon_theory.proofs.Nodes.{opp_opp, opp_below}
 use Rattle.octagon_theory.proofs.OneCut.{cut_tight}
 use Rattle.octagon_theory.proofs.Points.{under_cut, under_uncut, under_rounded, under_unrounded, meets_from_cut}
 use Rattle.octagon_theory.proofs.Rounding.{rounded_tight}

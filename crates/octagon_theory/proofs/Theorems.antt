@@ -19,7 +19,8 @@ use Rattle.octagon_theory.proofs.Exact.{greatest_unique, exact_from_tight, limit
 use Rattle.octagon_theory.proofs.Halves.{half_is}
 use Rattle.octagon_theory.proofs.LeastPoint.{least_below, least_no_later, length_least_values}
 use Rattle.octagon_theory.proofs.Line.{cut_line, cut_keeps, cut_adds_none, cut_met, some_point}
-use Rattle.octagon_theory.proofs.Nodes.{opp_below, value_opp}
+use Rattle.interface.proofs.Values.{value_opp}
+use Rattle.octagon_theory.proofs.Nodes.{opp_below}
 use Rattle.octagon_theory.proofs.Passing.{both_within, top_bounded}
 
 pub least_sums_are_least : LeastSumsAreLeast
