@@ -8,6 +8,7 @@ ghost use Rattle.wire.specs.Appending.{Appends};
 use interface::fault::SolverFault;
 use interface::shape::Shape;
 use octagon::matrix::Octagon;
+use problem::front::front;
 use report_lines::ending::put_end;
 use report_lines::refusal::put_refusal;
 use report_lines::region::put_region;
@@ -15,13 +16,6 @@ use search_theory::region::Region;
 use search_theory::reply::Reply;
 use search_theory::report::Report;
 use wire::output::Output;
-
-// The first `count` items, or all where there are fewer.
-fn front<T>(items: &[T], count: usize) -> &[T]
-    ensures { result.now ≡ take count items.now }
-{
-    &items[..count.min(items.len())]
-}
 
 fn put_one(region: &Region<Octagon>, output: &mut Output)
     ensures { Appends output.old output.new (frames_of octagon_model region.now) }

@@ -1,6 +1,6 @@
 -- One line more: what the lines from it on give is what it gives, and then the others. Assumes nothing.
-use Rattle.std.proofs.Common.{◌≡◌, ℕ, suc, ◌+◌, ◌-◌, ◌<◌, Bool, true, false, cond, leb, List, [], length, drop, Some, None, Ok, Err, Option, Result, sym, refl, ap, ◌∙◌, subst, arith}
-use Rattle.std.proofs.lemmas.List.{drop-drop}
+use Rattle.std.proofs.Common.{◌≡◌, ℕ, suc, ◌+◌, ◌-◌, ◌<◌, ◌≤◌, Bool, true, false, cond, leb, List, [], length, drop, Some, None, Ok, Err, Option, Result, sym, refl, ap, ◌∙◌, subst, arith}
+use Rattle.std.proofs.lemmas.List.{drop-drop, length-take-le}
 use Rattle.std.proofs.lemmas.Bool.{leb-false}
 use Rattle.std.proofs.lemmas.Result.{err_from_is_err_and}
 use Rattle.std.specs.Result.{MatchResult, IsErrAnd}
@@ -11,8 +11,10 @@ use Rattle.interface.specs.declared.home.Home.{Home}
 use Rattle.wire.specs.declared.reader.Reader.{Reader}
 use Rattle.wire.specs.Readers.{left_of, advanced}
 use Rattle.wire.specs.Text.{next_line, used, next_number}
+use Rattle.problem.specs.declared.problem.Problem.{Problem}
 use Rattle.problem.specs.declared.problem.Refusal.{Refusal}
 use Rattle.rules.specs.Any.{AnyRule}
+use Rattle.problem.specs.Problems.{rules_in}
 use Rattle.problem.specs.Reading.{Stated, after, if_any, placed, rule_line, stated_line, rules_from, go_on, with_rules, rules_behind, first_home, size_check, read_text, refusal}
 
 pub left_more : (r : Reader) → left_of (advanced r) ≡ drop (used (next_line (left_of r))) (left_of r)
@@ -44,6 +46,9 @@ stepped k lines n count r r' rs o h e d a =
     rules_more k lines n r rs count h e
     ∙ ap (λ s. go_on (stated_line n count (left_of r)) s.line rs (rules_from (lines - (k + 1)) n (left_of s) s.line)) (sym a)
     ∙ ap (λ q. go_on q r'.line rs (rules_from (lines - (k + 1)) n (left_of r') r'.line)) (sym d)
+
+pub counted : (p : Problem) → p.count ≤ 32 → length p.rules ≡ 32 → length (rules_in p) ≡ p.count
+counted p h e = length-take-le p.count p.rules (omega arith)
 
 -- a fault that was raised: the one below it, and what the raising made of it
 pub raised : {A E F : Type 0} (R : E → F → Type 0) (o : Result A E) (m : Result A F) (f : F) → MatchResult o (λ x. m ≡ Ok x) (λ e. IsErrAnd m (R e)) → m ≡ Err f → (e : E) × (o ≡ Err e) × R e f

@@ -1,5 +1,5 @@
 -- A problem by what it states. Assumes nothing.
-use Rattle.std.specs.Prelude.{List, Ok, Err, Result}
+use Rattle.std.specs.Prelude.{List, take, Ok, Err, Result}
 use Rattle.problem.specs.declared.problem.Problem.{Problem}
 use Rattle.problem.specs.declared.problem.Refusal.{Refusal}
 use Rattle.rules.specs.Any.{AnyRule}
@@ -7,7 +7,7 @@ use Rattle.problem.specs.Reading.{Stated}
 
 -- the home and the rules that count
 abbrev pub rules_in : Problem → List AnyRule
-rules_in p = p.rules.items
+rules_in p = take p.count p.rules
 
 abbrev pub stated_by : Problem → Stated
 stated_by p = record { home = p.home; rules = rules_in p }

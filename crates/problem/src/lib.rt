@@ -2,5 +2,6 @@
 #![tactic(auto)]
 
 pub mod any_rule;
+pub mod front;
 pub mod problem;
 mod reading;
