@@ -1,5 +1,5 @@
 // The points of an octagon: whether it holds one, and the least that it holds.
-ghost use Rattle.std.specs.Prelude.{◌≡◌, ◌*◌, ◌<◌, ◌≤◌, ◌+◌, ◌+ℤ◌, ◌-ℤ◌, int_le};
+ghost use Rattle.std.specs.Prelude.{◌≡◌, ◌*◌, ◌<◌, ◌≤◌, ◌+◌, ◌+ℤ◌, ◌-ℤ◌, ◌^◌, int_le, unsigned_abs};
 ghost use Rattle.interface.specs.Nodes.{value};
 ghost use Rattle.interface.specs.Points.{values_of};
 ghost use Rattle.octagon_theory.specs.Matrices.{next_value};
@@ -9,30 +9,41 @@ ghost use Rattle.octagon.specs.Octagons.{row_under, all_under, holds_at, narrow,
 use super::matrix::Octagon;
 use interface::point::Point;
 
+// v(p) of the values, by its place: `Point::at` tests each node that it is asked for, and `holds` asks for all pairs.
+fn value_at(values: &[i32; 8], p: u8) -> i64
+    requires { p < 16 }
+    ensures value { result ≡ value values.now p }
+    ensures bound { unsigned_abs result ≤ 2 ^ 31 }
+{
+    let v = i64::from(values[p as usize / 2]);
+    if p % 2 == 0 { v } else { -v }
+}
+
 impl Octagon {
-    // Whether v(p) + v(q) of the point is at most the limit (p, q). That a node is below 16 and n at most 8 the five here ask:
-    // types for them would be made and taken apart at each call.
-    fn is_under(&self, point: &Point, p: u8, q: u8) -> bool
+    // Whether v(p) + v(q) of the values is at most the limit (p, q). That a node is below 16 and n at most 8 the functions
+    // here ask: types for them would be made and taken apart at each call.
+    fn is_under(&self, values: &[i32; 8], p: u8, q: u8) -> bool
         requires { (p < 16) × (q < 16) }
-        ensures { result ≡ int_le (value (values_of point.now) p +ℤ value (values_of point.now) q) (at self.now.limits p q) }
+        ensures { result ≡ int_le (value values.now p +ℤ value values.now q) (at self.now.limits p q) }
     {
-        point.at(p) + point.at(q) <= i64::from(self.limit_of(p, q))
+        value_at(values, p) + value_at(values, q)
+            <= i64::from(self.limits[16 * p as usize + q as usize])
     }
 
-    // Whether the point keeps the limits of row p.
-    fn is_row_under(&self, point: &Point, p: u8) -> bool
+    // Whether the values keep the limits of row p.
+    fn is_row_under(&self, values: &[i32; 8], p: u8) -> bool
         requires { (self.now.n ≤ 8) × (p < 16) }
-        ensures { result ≡ row_under self.now.limits (values_of point.now) (2 * self.now.n) p }
+        ensures { result ≡ row_under self.now.limits values.now (2 * self.now.n) p }
     {
-        (0..2 * self.n).all(|q| self.is_under(point, p, q))
+        (0..2 * self.n).all(|q| self.is_under(values, p, q))
     }
 
     // Whether the point keeps every limit.
     fn is_above(&self, point: &Point) -> bool
-        requires { self.now.n ≤ 8 }
+        requires { (self.now.n ≤ 8) × (self.now.n ≤ point.now.n) }
         ensures { result ≡ all_under self.now.limits (values_of point.now) (2 * self.now.n) }
     {
-        (0..2 * self.n).all(|p| self.is_row_under(point, p))
+        (0..2 * self.n).all(|p| self.is_row_under(&point.values, p))
     }
 
     // Whether the octagon holds the point. `point.n.min(8)` stands for `point.settings()`: the proof needs that the array has
@@ -46,9 +57,10 @@ impl Octagon {
     // The lower bound that node p, of a setting of the point, puts on the next setting.
     fn bound_by(&self, point: &Point, p: u8) -> i64
         requires { (point.now.n < 8) × (p < 16) }
-        ensures { result ≡ (value (values_of point.now) p -ℤ at self.now.limits p (2 * point.now.n + 1)) }
+        ensures { result ≡ (value point.now.values p -ℤ at self.now.limits p (2 * point.now.n + 1)) }
     {
-        point.at(p) - i64::from(self.limit_of(p, 2 * point.n + 1))
+        let next = 2 * point.n as usize + 1;
+        value_at(&point.values, p) - i64::from(self.limits[16 * p as usize + next])
     }
 
     // The least value of the next setting, after those of the point: the greatest of its lower bounds.
