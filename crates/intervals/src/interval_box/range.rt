@@ -24,10 +24,18 @@ impl IntervalBox {
         self.spans.get(k as usize).map_or(0, |span| span.high)
     }
 
+    // The low at a place of the array, apart from `lows`, so that a wrong one is refused at the code.
+    fn low_of(&self, k: usize) -> i32
+        requires { k < 8 }
+        ensures { result ≡ low_at self.now k }
+    {
+        self.low(k as u8)
+    }
+
     pub(crate) fn lows(&self) -> [i32; 8]
         ensures { result ≡ all_lows self.now }
     {
-        array::from_fn(|k| self.low(k as u8))
+        array::from_fn(|k| self.low_of(k))
     }
 
     // The least v(p).

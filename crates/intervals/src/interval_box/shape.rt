@@ -1,7 +1,7 @@
 // The interval box as a shape.
-ghost use Rattle.std.specs.Prelude.{◌≡◌, ◌^◌, ◌<◌, ◌||◌, pos, ◌-ℤ◌, neg_ℤ, ◌≤ℤ◌};
+ghost use Rattle.std.specs.Prelude.{◌≡◌, ◌^◌, ◌<◌, ◌||◌, pos, ◌+ℤ◌, ◌-ℤ◌, neg_ℤ, ◌≤ℤ◌};
 ghost use Rattle.interface.specs.Points.{values_of};
-ghost use Rattle.intervals.specs.Boxes.{least, bounded};
+ghost use Rattle.intervals.specs.Boxes.{least, greatest, bounded};
 ghost use Rattle.intervals.specs.Answers.{home_spans, start_box, cut_box, closed, middle, limited, lower_box, upper_box, extent_box, limit_box, holds_box, offer_box, halvings_box};
 ghost use Rattle.intervals.specs.Model.{box_model};
 ghost use Rattle.intervals.specs.Laws.{box_laws};
@@ -27,6 +27,17 @@ fn spans_of(home: &Home) -> [Span; 8]
     })
 }
 
+// What c leaves of a sum of two values where the one is at least this much. It and `sum` are functions of their own, so that
+// a wrong difference or sum is refused at the code.
+fn rest(c: i32, least: i64) -> i64
+    requires { (neg_ℤ (pos (2 ^ 31)) ≤ℤ least) × (least ≤ℤ pos (2 ^ 31)) }
+    ensures value { result ≡ c -ℤ least }
+    ensures low_bound { neg_ℤ (pos (2 ^ 33)) ≤ℤ result }
+    ensures high_bound { result ≤ℤ pos (2 ^ 33) }
+{
+    i64::from(c) - least
+}
+
 impl IntervalBox {
     // Whether nothing is left to split.
     fn is_closed(&self) -> bool
@@ -48,8 +59,8 @@ impl IntervalBox {
     fn bounded_both(&self, p: u8, q: u8, c: i32) -> IntervalBox
         ensures { result ≡ bounded (bounded self.now p (c -ℤ least self.now q)) q (c -ℤ least self.now p) }
     {
-        let most_p = i64::from(c) - self.least(q);
-        let most_q = i64::from(c) - self.least(p);
+        let most_p = rest(c, self.least(q));
+        let most_q = rest(c, self.least(p));
         self.bounded(p, most_p).bounded(q, most_q)
     }
 
@@ -74,6 +85,13 @@ impl IntervalBox {
         ensures { result ≡ limited self.now p q }
     {
         !self.void && self.on_line(p) && self.on_line(q) && q != opposite(p)
+    }
+
+    // The sum of the greatest values at p and q.
+    fn sum(&self, p: u8, q: u8) -> i64
+        ensures { result ≡ greatest self.now p +ℤ greatest self.now q }
+    {
+        self.greatest(p) + self.greatest(q)
     }
 }
 
@@ -132,7 +150,7 @@ impl Shape for IntervalBox {
         ensures { result ≡ limit_box self.now p q }
     {
         if self.is_limited(p, q) {
-            (self.greatest(p) + self.greatest(q)).clamp(-2_000_000, 2_000_000) as i32
+            self.sum(p, q).clamp(-2_000_000, 2_000_000) as i32
         } else {
             0
         }
