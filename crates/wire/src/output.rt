@@ -86,6 +86,14 @@ impl<'a> Output<'a> {
         }
     }
 
+    // Apart from `put_line`, so that a place before the feed is refused at the code.
+    fn put_feed(&mut self)
+        requires { (lines_in self.old).place < length (lines_in self.old).output }
+        ensures { Writes self.old self.new (10 ∷ []) }
+    {
+        self.put(b'\n');
+    }
+
     // Appends a frame as a line, and answers whether it has room; where the whole line has none, nothing is written.
     // The line reads back.
     pub fn put_line(&mut self, frame: &[u8]) -> bool
@@ -96,7 +104,7 @@ impl<'a> Output<'a> {
         let room = self.has_room(frame);
         if room {
             self.put_digits(frame);
-            self.put(b'\n');
+            self.put_feed();
         }
         room
     }

@@ -8,13 +8,13 @@ use Rattle.wire.proofs.ReadBack.{reads_back}
 use Rattle.wire.proofs.Written.{writes_room}
 use Rattle.wire.proofs.output.Output.put_line.Goals as goal
 
-pub put-requires : goal.put-requires
-put-requires c =
+pub put_feed-requires : goal.put_feed-requires
+put_feed-requires c =
     let fits = ltb-true (c.args.self.now.at + 2 * length c.args.frame.now) (length c.args.self.now.bytes.now) (search rules) in
     omega (arith, writes_room c.args.self.now c.put_digits.new.self (hex c.args.frame.now) c.put_digits.ensures 1 (omega (arith, length_hex c.args.frame.now)))
 
 pub returns-then-room-clause-appends : goal.returns-then-room-clause-appends
-returns-then-room-clause-appends c = fitting c.args.self.now c.args.frame.now c.put_digits.new.self c.put.new.self (search rules) c.put_digits.ensures c.put.ensures
+returns-then-room-clause-appends c = fitting c.args.self.now c.args.frame.now c.put_digits.new.self c.put_feed.new.self (search rules) c.put_digits.ensures c.put_feed.ensures
 
 pub returns-else-room-clause-appends : goal.returns-else-room-clause-appends
 returns-else-room-clause-appends c = left_out c.args.self.now c.args.frame.now (search rules)
