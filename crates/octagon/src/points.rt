@@ -5,7 +5,9 @@ ghost use Rattle.interface.specs.Points.{values_of};
 ghost use Rattle.octagon_theory.specs.Matrices.{next_value};
 ghost use Rattle.octagon.specs.Entries.{at};
 ghost use Rattle.octagon.specs.Octagons.{row_under, all_under, holds_at, narrow, offered, offer_of};
+ghost use Rattle.octagon.specs.Ranges.{low_at};
 
+use super::lowering::half_of;
 use super::matrix::Octagon;
 use interface::point::Point;
 
@@ -63,13 +65,22 @@ impl Octagon {
         value_at(&point.values, p) - i64::from(self.limits[16 * p as usize + next])
     }
 
+    // The lower bound of setting k alone.
+    fn own_bound(&self, k: u8) -> i64
+        requires { k < 8 }
+        ensures { result ≡ low_at (at self.now.limits) k }
+    {
+        let odd = 2 * k as usize + 1;
+        -i64::from(half_of(self.limits[16 * odd + odd]))
+    }
+
     // The least value of the next setting, after those of the point: the greatest of its lower bounds.
     fn next_value(&self, point: &Point) -> i32
         requires { point.now.n < 8 }
         ensures { result ≡ narrow (next_value (at self.now.limits) (values_of point.now)) }
     {
         let bounds = (0..2 * point.n).map(|p| self.bound_by(point, p));
-        i32::try_from(bounds.fold(i64::from(self.low(point.n)), i64::max)).unwrap_or(0)
+        i32::try_from(bounds.fold(self.own_bound(point.n), i64::max)).unwrap_or(0)
     }
 
     // The least values of the first m settings, and 0 past them.
