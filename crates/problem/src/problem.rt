@@ -52,12 +52,10 @@ fn read_rules(reader: &mut Reader, problem: &mut Problem, lines: usize) -> Resul
     ensures rules { rules_seen result (rules_in problem.new) ≡ rules_from lines problem.old.home.n (left_of reader.old) reader.old.line (rules_in problem.old) }
 {
     for k in 0..lines {
-        let next = stated_line(reader, problem.home.n, problem.count).map_err(
-            |fault| Refusal {
-                fault,
-                line: reader.line,
-            },
-        )?;
+        let next = stated_line(reader, problem.home.n, problem.count).map_err(|fault| Refusal {
+            fault,
+            line: reader.line,
+        })?;
         let Some(rule) = next else {
             return Ok(());
         };

@@ -1,4 +1,4 @@
-use Rattle.std.proofs.Common.{◌+◌, ◌^◌, ◌<◌, sym, subst, rules}
+use Rattle.std.proofs.Common.{◌+◌, sym, subst, rules}
 use Rattle.halving.specs.Halvings.{LeastPower}
 use Rattle.halving.proofs.Lowers.{digits_least, bits_unique}
 use Rattle.halving.proofs.bits.Goals as goal
