@@ -42,7 +42,7 @@ impl Octagon {
     }
 
     // The least value of setting k.
-    pub(crate) fn low(&self, k: u8) -> i32
+    fn low(&self, k: u8) -> i32
         requires { k < 8 }
         ensures value { result ≡ low_at (at self.now.limits) k }
         ensures bound { (neg_ℤ (pos 1073741823) ≤ℤ result) × (result ≤ℤ pos 1073741824) }

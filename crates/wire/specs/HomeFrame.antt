@@ -1,5 +1,5 @@
 -- The home frame: 01, the number n of settings, then n times low and high, four bytes each. Assumes nothing.
-use Rattle.std.specs.Prelude.{ℕ, ◌+◌, ◌*◌, ◌/◌, ◌%◌, min, cond, List, map, ℤ, ◌==◌, slice_index}
+use Rattle.std.specs.Prelude.{ℕ, ◌+◌, ◌-◌, ◌*◌, ◌/◌, ◌%◌, min, cond, List, map, ℤ, ◌==◌, slice_index}
 use Rattle.std.specs.Int.{w32}
 use Rattle.std.proofs.Common.{to_z}
 use Rattle.std.specs.List.{range_with_len}
@@ -7,7 +7,7 @@ use Rattle.interface.specs.declared.home.Home.{Home}
 use Rattle.interface.specs.Homes.{low_of, high_of, eight_spans, home_check}
 use Rattle.wire.specs.Bytes.{val, part}
 use Rattle.wire.specs.Frames.{FrameModel}
-use Rattle.wire.specs.Words.{words_frame_byte}
+use Rattle.wire.specs.Words.{word_byte}
 
 -- the signed number in the four bytes from i on
 abbrev pub word_at : List ℕ → ℕ → ℤ
@@ -20,9 +20,9 @@ home_word h k = cond (k % 2 == 0) (low_of h (k / 2)) (high_of h (k / 2))
 abbrev pub home_words : Home → List ℤ
 home_words h = map (home_word h) (range_with_len 0 16)
 
--- byte j of the frame of eight settings
+-- byte j of the frame: the code, n, then each word's four bytes
 abbrev pub home_byte : Home → ℕ → ℕ
-home_byte h = words_frame_byte 1 h.n (home_words h)
+home_byte h j = cond (j == 0) 1 (cond (j == 1) h.n (word_byte (home_word h ((j - 2) / 4)) ((j - 2) % 4)))
 
 -- a record has at most eight settings to write
 abbrev pub write_home : Home → List ℕ

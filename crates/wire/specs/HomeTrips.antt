@@ -16,10 +16,10 @@ use Rattle.interface.specs.Numbers.{within}
 use Rattle.interface.proofs.Homes.{span_before}
 use Rattle.wire.specs.Bytes.{be, val}
 use Rattle.wire.specs.Frames.{FrameLaws, Accepted, field}
-use Rattle.wire.specs.HomeFrame.{word_at, home_word, home_words, home_byte, low_in, high_in, write_home, read_home, counted_home, home_frame}
+use Rattle.wire.specs.HomeFrame.{word_at, home_word, home_byte, low_in, high_in, write_home, read_home, counted_home, home_frame}
 use Rattle.wire.specs.BigEndian.{small_be, val_be}
 use Rattle.wire.specs.Codecs.{write_one, get_or_part, part_is, byte_small}
-use Rattle.wire.specs.Words.{word_byte, words_byte}
+use Rattle.wire.specs.Words.{word_byte}
 use Rattle.wire.specs.Passing.{settings_ok, low_fits, high_fits, joined_same}
 
 -- the places of a home frame: its code, n, and the bytes of lows and highs
@@ -33,24 +33,24 @@ by_place P n code count low high (suc (suc m)) h = way (cases_lt (m % 8) 4)
     way (inr le) = subst P (omega arith) (high (m / 8) (m % 8 - 4) (omega arith) (omega arith))
 
 -- byte r of the low and of the high of setting k
-module _ (h : Home) (k r : ℕ) (on : k < 8) (small : r < 4) where
-  word_at_place : (j d : ℕ) → 2 ≤ j → (j - 2) / 4 ≡ d → (j - 2) % 4 ≡ r → d < 16 → home_byte h j ≡ word_byte (home_word h d) r
-  word_at_place j d past p q below =
-      cond-false (j == 0) 1 (cond (j == 1) h.n (words_byte (home_words h) (j - 2))) (ne_eqb j 0 (λ e. omega arith))
-      ∙ cond-false (j == 1) h.n (words_byte (home_words h) (j - 2)) (ne_eqb j 1 (λ e. omega arith))
-      ∙ (λ i. word_byte (slice_index_or (home_words h) (p i) (pos 0)) (q i))
-      ∙ ap (λ z. word_byte z r) (get_or-map-range_with_len (home_word h) 0 16 d d (pos 0) below (omega arith))
+module _ (h : Home) (k r : ℕ) (small : r < 4) where
+  word_at_place : (j d : ℕ) → 2 ≤ j → (j - 2) / 4 ≡ d → (j - 2) % 4 ≡ r → home_byte h j ≡ word_byte (home_word h d) r
+  word_at_place j d past p q =
+      let word = word_byte (home_word h ((j - 2) / 4)) ((j - 2) % 4) in
+      cond-false (j == 0) 1 (cond (j == 1) h.n word) (ne_eqb j 0 (λ e. omega arith))
+      ∙ cond-false (j == 1) h.n word (ne_eqb j 1 (λ e. omega arith))
+      ∙ (λ i. word_byte (home_word h (p i)) (q i))
 
   home_low : home_byte h (2 + 8 * k + r) ≡ word_byte (low_of h k) r
   home_low =
       let half : 2 * k / 2 ≡ k = omega arith in
-      word_at_place (2 + 8 * k + r) (2 * k) (omega arith) (omega arith) (omega arith) (omega arith)
+      word_at_place (2 + 8 * k + r) (2 * k) (omega arith) (omega arith) (omega arith)
       ∙ ap (λ z. word_byte z r) (cond-true (2 * k % 2 == 0) _ _ (eq-eqb _ _ (omega arith)) ∙ ap (low_of h) half)
 
   home_high : home_byte h (6 + 8 * k + r) ≡ word_byte (high_of h k) r
   home_high =
       let half : (2 * k + 1) / 2 ≡ k = omega arith in
-      word_at_place (6 + 8 * k + r) (2 * k + 1) (omega arith) (omega arith) (omega arith) (omega arith)
+      word_at_place (6 + 8 * k + r) (2 * k + 1) (omega arith) (omega arith) (omega arith)
       ∙ ap (λ z. word_byte z r) (cond-false ((2 * k + 1) % 2 == 0) _ _ (ne_eqb _ _ (λ e. omega arith)) ∙ ap (high_of h) half)
 
 -- eight spans agree where the first n do
@@ -79,10 +79,10 @@ module _ (h : Home) (ok : Passes h) where
       ap (λ p. to_z w32 (val p)) (part_is 4 i (write_home h) q refl same) ∙ ap (to_z w32) (val_be 3 (of_z w32 z) (Fits-of_z fits).fits) ∙ to_z-of_z w32 z fits
 
   low_back : (k : ℕ) → k < h.n → word_at (write_home h) (2 + 8 * k) ≡ low_of h k
-  low_back k lt = word_back (2 + 8 * k) (low_of h k) (low_fits h ok k lt) (λ r small. byte_at (2 + 8 * k + r) (omega arith) ∙ home_low h k r (omega (arith, (settings_ok h ok).1)) small)
+  low_back k lt = word_back (2 + 8 * k) (low_of h k) (low_fits h ok k lt) (λ r small. byte_at (2 + 8 * k + r) (omega arith) ∙ home_low h k r small)
 
   high_back : (k : ℕ) → k < h.n → word_at (write_home h) (6 + 8 * k) ≡ high_of h k
-  high_back k lt = word_back (6 + 8 * k) (high_of h k) (high_fits h ok k lt) (λ r small. byte_at (6 + 8 * k + r) (omega arith) ∙ home_high h k r (omega (arith, (settings_ok h ok).1)) small)
+  high_back k lt = word_back (6 + 8 * k) (high_of h k) (high_fits h ok k lt) (λ r small. byte_at (6 + 8 * k + r) (omega arith) ∙ home_high h k r small)
 
   count_back : get_or (write_home h) 1 0 ≡ h.n
   count_back = byte_at 1 (omega arith)
@@ -97,7 +97,7 @@ module _ (h : Home) (ok : Passes h) where
   word_small z r fits = byte_small (be 4 (of_z w32 z)) r (small_be 4 (of_z w32 z) (Fits-of_z fits).fits)
 
   bytes_small : (j : ℕ) → j < 2 + 8 * h.n → home_byte h j < 256
-  bytes_small = by_place (λ j. home_byte h j < 256) h.n (omega arith) (omega (arith, (settings_ok h ok).1)) (λ k r lt small. subst (λ b. b < 256) (sym (home_low h k r (omega (arith, (settings_ok h ok).1)) small)) (word_small (low_of h k) r (low_fits h ok k lt))) (λ k r lt small. subst (λ b. b < 256) (sym (home_high h k r (omega (arith, (settings_ok h ok).1)) small)) (word_small (high_of h k) r (high_fits h ok k lt)))
+  bytes_small = by_place (λ j. home_byte h j < 256) h.n (omega arith) (omega (arith, (settings_ok h ok).1)) (λ k r lt small. subst (λ b. b < 256) (sym (home_low h k r small)) (word_small (low_of h k) r (low_fits h ok k lt))) (λ k r lt small. subst (λ b. b < 256) (sym (home_high h k r small)) (word_small (high_of h k) r (high_fits h ok k lt)))
 
   home_long : length (write_home h) ≡ 2 + 8 * h.n
   home_long = length-map-range_with_len (home_byte h) 0 size ∙ omega (arith, (settings_ok h ok).1)
@@ -133,8 +133,8 @@ module _ (n : ℕ) (bs : List ℕ) (a : Accepted home_frame n bs) where
 
   byte_again : (j : ℕ) → j < 2 + 8 * slice_index bs 1 → slice_index bs j ≡ home_byte h j
   byte_again = by_place (λ j. slice_index bs j ≡ home_byte h j) (slice_index bs 1) a.coded refl
-      (λ k r lt small. sym (home_low h k r (omega (arith, top)) small ∙ word_again (2 + 8 * k) (low_of h k) r small (ap (λ s. s.low) (span_before (slice_index bs 1) (low_in bs) (high_in bs) k top lt))))
-      (λ k r lt small. sym (home_high h k r (omega (arith, top)) small ∙ word_again (6 + 8 * k) (high_of h k) r small (ap (λ s. s.high) (span_before (slice_index bs 1) (low_in bs) (high_in bs) k top lt))))
+      (λ k r lt small. sym (home_low h k r small ∙ word_again (2 + 8 * k) (low_of h k) r small (ap (λ s. s.low) (span_before (slice_index bs 1) (low_in bs) (high_in bs) k top lt))))
+      (λ k r lt small. sym (home_high h k r small ∙ word_again (6 + 8 * k) (high_of h k) r small (ap (λ s. s.high) (span_before (slice_index bs 1) (low_in bs) (high_in bs) k top lt))))
 
   frame_back : write_home (read_home bs) ≡ bs
   frame_back = sym (fill_by_all (home_byte h) bs (2 + 8 * min (slice_index bs 1) 8) 0 (a.sized ∙ omega (arith, top)) (λ j lt. byte_again j (omega arith)))
