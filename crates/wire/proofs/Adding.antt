@@ -52,20 +52,22 @@ module _ (o : Output) (bs : List ℕ) where
       let below = ltb-true (o.at + 2 * length bs) (length o.bytes.now) room in
       let line = writes_on o p (hex bs) digits (omega (arith, length_hex bs)) q (10 ∷ []) feed in
       let place = ap (λ k. lines (written o.bytes.now o.at (line_of bs)) (o.at + k)) (line_long bs) in
-      record { same_bytes = line.same_bytes; lines_put = line.bytes_put ∙ place ∙ sym (put_one o.bytes.now o.at bs (omega arith)) }
+      let long = ap (λ (l : Lines). length l.output) line.bytes_put ∙ written_long o.bytes.now o.at (line_of bs) (omega (arith, line_long bs)) in
+      record { same_bytes = line.same_bytes; same_length = long; lines_put = line.bytes_put ∙ place ∙ sym (put_one o.bytes.now o.at bs (omega arith)) }
 
   pub left_out : has_room (lines_in o) bs ≡ false → Appends o o (bs ∷ [])
   left_out none =
       let output = cond-false (has_room (lines_in o) bs) (written o.bytes.now o.at (line_of bs)) o.bytes.now none in
       let place = ap (place_after o.at) (cond-false (has_room (lines_in o) bs) (Some (o.at + 2 * length bs + 1)) None none) in
-      record { same_bytes = refl; lines_put = sym (λ k. lines (output k) (place k)) }
+      record { same_bytes = refl; same_length = refl; lines_put = sym (λ k. lines (output k) (place k)) }
 
 -- an output with the frames of two turns
 pub appends_none : (o : Output) → Appends o o []
-appends_none o = record { same_bytes = refl; lines_put = refl }
+appends_none o = record { same_bytes = refl; same_length = refl; lines_put = refl }
 
 pub appends_on : (a b c : Output) (fs gs : List (List ℕ)) → Appends a b fs → Appends b c gs → Appends a c (fs ++ gs)
 appends_on a b c fs gs p q = record {
   same_bytes = q.same_bytes ∙ p.same_bytes;
+  same_length = q.same_length ∙ p.same_length;
   lines_put = q.lines_put ∙ ap (λ (s : Lines). put_frames s gs) p.lines_put ∙ sym (put_on fs gs (lines_in a));
 }

@@ -33,9 +33,10 @@ abbrev pub put_frames : Lines → List (List ℕ) → Lines
 put_frames s [] = s
 put_frames s (f ∷ fs) = put_frames (put_frame s f) fs
 
--- the same lent bytes, with these frames appended
+-- the same lent bytes, as many as before, with these frames appended
 pub record Appends (old new : Output) (fs : List (List ℕ)) : Type 0 where
   pub same_bytes : new.bytes.ghost_name ≡ old.bytes.ghost_name
+  pub same_length : length new.bytes.now ≡ length old.bytes.now
   pub lines_put : lines_in new ≡ put_frames (lines_in old) fs
 
 -- the same lent bytes, with s written from the place on, and the place behind it
